@@ -69,7 +69,7 @@ def costs():
 
 def call_units(what):
     """The units of a flat call or return, and of each value that it hands over."""
-    found = re.search(rf"^cost p f \({what} .*\) = (\d+) \+ (\d+) \* ", text_of("flat_meaning/specs/Meaning.antt"), re.M)
+    found = re.search(rf"^cost p f \({what} .*\) = (\d+) \+ (\d+) \* ", text_of("flat_code/specs/Meaning.antt"), re.M)
     return int(found[1]), int(found[2])
 
 

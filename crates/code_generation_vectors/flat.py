@@ -1,6 +1,6 @@
 #!/usr/bin/env python3
 """Makes stdin and stdout of this program: programs of flat code, and what they do by the definitions of flat code
-(`flat_meaning/specs`) and of the operators (RISC-V unprivileged ISA manual, "RV32I", "RV64I" and "M"), which are
+(`flat_code/specs`) and of the operators (RISC-V unprivileged ISA manual, "RV32I", "RV64I" and "M"), which are
 written again here. Nothing of this repository's programs is asked.
 
 usage: python3 crates/code_generation_vectors/flat.py make

@@ -2,7 +2,7 @@
 """Sources with static objects, and what each of these holds before a run: the bytes that gcc 12.2.0 (Debian; x86-64, whose types
 have the sizes and alignments of RV64) puts into an object file, where a pointer is the number of its object and the offset in it.
 The types and initializers are drawn: structures, unions and arrays in one another, designators of several levels, braces left out,
-parts that lie over earlier ones, strings, addresses of parts of objects and of functions.
+parts that lie over earlier ones, strings, addresses of parts of objects and of functions. The texts of FIXED stand before them.
 """
 
 import os
@@ -15,6 +15,10 @@ OPTIONS = ["-std=c99", "-pedantic-errors", "-funsigned-char", "-fno-pic", "-fno-
 INTEGERS = ["char", "signed char", "unsigned char", "short", "unsigned short", "int", "unsigned", "long", "unsigned long", "long long"]
 HEAD = "int f(void){return 0;}int g(void){return 1;}\nint y[4];"
 TAIL = "int main(void){return 0;}"
+# What designates a function is a pointer to it (C99 6.3.2.1 paragraph 4).
+FIXED = [HEAD + "\n"
+         "int(*x[9])(void)={*f,**g,(*f),*&g,&*f,&**g,&(***f),(int(*)(void))*g,*(int(*)(void))(long(*)(void))*f};\n"
+         "char*p[]={(char*)(x+1)};\n" + TAIL]
 # Where typing_vectors places static objects and functions.
 STATICS, FUNCTIONS, STEP = 0x10000000, 0x20000000, 0x10000
 
@@ -174,13 +178,20 @@ def line_of(file, name, statics):
     return " ".join([str(len(content)), *words, content[len(content) // 8 * 8:].hex()])
 
 
+def row_of(text, data):
+    """A source, and the lines of its static objects in the order of their names."""
+    file = ObjectFile(data)
+    return text, [line_of(file, name, ["y", "x", "p"]) for name in ("y", "x", "p")]
+
+
 def rows(count):
-    """Sources, and the lines of their static objects in the order of their names."""
+    """The rows of FIXED and drawn ones."""
+    for text in FIXED:
+        yield row_of(text, object_file(text))
     draw = random.Random(3)
     while count:
         text = drawn_source(draw)
         data = object_file(text)
         if data:
-            file = ObjectFile(data)
-            yield text, [line_of(file, name, ["y", "x", "p"]) for name in ("y", "x", "p")]
+            yield row_of(text, data)
             count -= 1

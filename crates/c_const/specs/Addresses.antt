@@ -40,8 +40,10 @@ to_pointer (kind.Scalar Pointer) (kind.Scalar Pointer) word p = p
 to_pointer _ _ word p = None
 
 -- The pointer that an address constant gives: an integer constant expression as a pointer, a function's name or
--- address, the address of an lvalue or an array that decays, one of these plus or minus an integer constant expression,
--- and parentheses or a conversion to a pointer around one. There is none where an expression is no address constant.
+-- address, `*` of an address constant where it designates a function, the address of an lvalue or an array that decays,
+-- one of these plus or minus an integer constant expression, and parentheses or a conversion to a pointer around one.
+-- What designates a function is converted to a pointer to it (6.3.2.1 paragraph 4), so `*` of a pointer to a function
+-- gives that pointer again. There is none where an expression is no address constant.
 abbrev mutual
   pub address_of : Pointers → Expression → Option Value
   address_of ps (expression kind line node) = node_address ps kind node
@@ -51,6 +53,7 @@ abbrev mutual
   node_address ps kind (decay p) = place_of ps p
   node_address ps kind (address p) = place_of ps p
   node_address ps kind (parenthesized e) = address_of ps e
+  node_address ps kind (deref_function e) = address_of ps e
   node_address ps kind (address_function e) = designated ps e
   node_address ps kind (cast e) = to_pointer kind (kind_of e) (constant_word e) (address_of ps e)
   node_address ps kind (convert e) = to_pointer kind (kind_of e) (constant_word e) (address_of ps e)

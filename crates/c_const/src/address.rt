@@ -89,7 +89,7 @@ fn address_of(pointers: &Pointers, expression: &Expression) -> Option<Value>
     match &expression.node {
         Node::Function(number) => function_at(pointers, *number),
         Node::Decay(p) | Node::Address(p) => place_of(pointers, p.get()),
-        Node::Parenthesized(e) => address_of(pointers, e.get()),
+        Node::Parenthesized(e) | Node::DerefFunction(e) => address_of(pointers, e.get()),
         Node::AddressFunction(e) => designated(pointers, e.get()),
         Node::Cast(e) | Node::Convert(e) => match (expression.kind, e.get().kind) {
             (Kind::Scalar(Scalar::Pointer), Kind::Scalar(Scalar::Integer(_))) => {

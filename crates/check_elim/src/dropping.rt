@@ -97,8 +97,8 @@ fn functions_without(
 }
 
 /// The program without its available checks, made of the given one, and how many went: exactly these become skips, in
-/// code that no run reaches too. Nodes keep their numbers, and all else stays as it is. A function of 2^32 nodes or more
-/// keeps its checks. An error comes where there is no memory for it.
+/// code that no run reaches too. Nodes keep their numbers, and all else stays as it is. A function of 2^32 nodes or
+/// more keeps its checks. An error comes where there is no memory for it.
 pub fn drop_available(alloc: Global, program: Tac) -> Result<(Tac, u64), AllocError>
     ensures dropped { IfOk result (λ r. Dropped IsDroppable program r.0) }
     ensures count { IfOk result (λ r. checks program < 2 ^ 64 → checks r.0 + r.1 ≡ checks program) }

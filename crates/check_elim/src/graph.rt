@@ -99,8 +99,8 @@ fn begun(alloc: Global, function: &CodeFunction) -> Result<Worklist, AllocError>
     Ok(reached)
 }
 
-/// For each node of a function, from which nodes an edge leads to it. Nodes to which no path leads have none, and none is
-/// such a node.
+/// For each node of a function, from which nodes an edge leads to it. Nodes to which no path leads have none, and none
+/// is such a node.
 pub fn predecessors(alloc: Global, function: &CodeFunction) -> Result<Relation, AllocError>
     requires few { length function.now.code < 2 ^ 32 }
     ensures { IfOk result (λ before. HasPredecessors function.now before) }

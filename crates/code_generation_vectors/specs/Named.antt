@@ -1,8 +1,8 @@
 -- What a program must have to be planned, as it is tested.
 use Rattle.std.specs.Prelude.{◌≡◌, ℕ, ◌^◌, ◌<◌, true, length, Some, slice_get}
-use Rattle.flat_meaning.specs.declared.instruction.FlatInstruction.{FlatInstruction}
-use Rattle.flat_meaning.specs.declared.function.FlatFunction.{FlatFunction}
-use Rattle.flat_meaning.specs.declared.function.FlatProgram.{FlatProgram}
+use Rattle.flat_code.specs.declared.instruction.FlatInstruction.{FlatInstruction}
+use Rattle.flat_code.specs.declared.function.FlatFunction.{FlatFunction}
+use Rattle.flat_code.specs.declared.function.FlatProgram.{FlatProgram}
 use Rattle.reg_plan.specs.Effects.{read_by, is_read, made_by, is_among}
 use Rattle.reg_plan.specs.Flow.{IsNamed}
 use Rattle.reg_plan.specs.declared.plan.FunctionPlan.{FunctionPlan}

@@ -4,7 +4,7 @@ use crate::instruction::{Numbers, instruction, low, right};
 use crate::list::put;
 use crate::operators::{CONDITIONS, OPERATORS, OPERATORS_32, find};
 use anyhow::{Context, Result, bail};
-use flat_meaning::{FlatInstruction, RightOperand};
+use flat_code::{FlatInstruction, RightOperand};
 use rv_isa::{BranchOp, RegOp, RegOp32};
 use std::alloc::{AllocError, Global};
 

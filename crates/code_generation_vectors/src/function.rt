@@ -3,7 +3,7 @@
 use crate::families::Body;
 use crate::list::push;
 use anyhow::{Context, Result, ensure};
-use flat_meaning::FlatFunction;
+use flat_code::FlatFunction;
 use std::alloc::{AllocError, Global};
 use tree_containers::Items;
 

@@ -2,7 +2,7 @@
 
 use crate::operators::{CONDITIONS, LOADS, OPERATORS, OPERATORS_32, STORES, find};
 use anyhow::{Context, Result};
-use flat_meaning::{FlatInstruction, RightOperand};
+use flat_code::{FlatInstruction, RightOperand};
 use sb_base::{Ending, Line};
 
 /// The numbers behind a name, 0 where there are fewer.

@@ -23,7 +23,7 @@ use crate::phases::{Phase, put_phase};
 use crate::plans::{is_plannable, is_readable};
 use crate::runs::Given;
 use anyhow::{Context, Result};
-use flat_meaning::FlatProgram;
+use flat_code::FlatProgram;
 use std::{env, io};
 use tree_containers::Items;
 

@@ -5,7 +5,7 @@ ghost use Rattle.code_generation_vectors.specs.Named.{IsSmall};
 
 use crate::runs::{Given, image, map_of, put_runs};
 use anyhow::{Result, bail};
-use flat_meaning::FlatProgram;
+use flat_code::FlatProgram;
 use reg_plan::planned::{registers, slots};
 
 /// How far it goes.

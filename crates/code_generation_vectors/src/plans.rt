@@ -1,13 +1,13 @@
 //! Which programs can be planned.
 
 ghost use Rattle.std.specs.Prelude.{◌≡◌, ◌<◌, ◌^◌, ℕ, IfOk, length, Some, true, slice_get};
-ghost use Rattle.flat_meaning.specs.declared.function.FlatFunction.{FlatFunction};
+ghost use Rattle.flat_code.specs.declared.function.FlatFunction.{FlatFunction};
 ghost use Rattle.reg_plan.specs.Effects.{is_among};
 ghost use Rattle.reg_plan.specs.Flow.{IsNamed};
 ghost use Rattle.reg_plan.specs.Planned.{ArePlannable, ArePlanned};
 ghost use Rattle.code_generation_vectors.specs.Named.{HasNames, IsSmall, AreNamed, HasNeeded};
 
-use flat_meaning::{FlatFunction, FlatInstruction, FlatProgram};
+use flat_code::{FlatFunction, FlatInstruction, FlatProgram};
 use reg_plan::accepts::accepts;
 use reg_plan::colouring::all_at_home;
 use reg_plan::effects::{Span, made_by, read_by};

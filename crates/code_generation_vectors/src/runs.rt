@@ -8,7 +8,7 @@ ghost use Rattle.code_generation_vectors.specs.Named.{IsSmall};
 
 use addr_map::AddrMap;
 use anyhow::{Context, Result, bail};
-use flat_meaning::FlatProgram;
+use flat_code::FlatProgram;
 use reg_plan::Plan;
 use reg_plan::planned::{registers, slots};
 use rv_codegen::images::{image_of, machine_of};

@@ -163,8 +163,8 @@ fn insert_all(set: &mut NodeSet, nodes: &[u32])
 
 /// The nodes that a fact reaches which is generated at some nodes, flows along edges, and is killed at some nodes: the
 /// least solution, as runs, which may overlap. It takes time for what is generated and killed, and for the runs and the
-/// edges of their first nodes, each with the logarithm of the nodes. The stretches are those of the graph. The two sets,
-/// of all nodes, are only made use of.
+/// edges of their first nodes, each with the logarithm of the nodes. The stretches are those of the graph. The two
+/// sets, of all nodes, are only made use of.
 pub fn least_runs(
     alloc: Global,
     edges: &Relation,

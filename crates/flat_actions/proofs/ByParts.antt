@@ -1,6 +1,6 @@
 -- Lists of instructions by the lists of which they are made.
 use Rattle.std.proofs.Common.{◌≡◌, List, ◌++◌, ap, ◌∙◌}
-use Rattle.flat_meaning.specs.declared.instruction.FlatInstruction.{FlatInstruction}
+use Rattle.flat_code.specs.declared.instruction.FlatInstruction.{FlatInstruction}
 
 pub joined_are : (r a b x y : List FlatInstruction) → r ≡ a ++ b → a ≡ x → b ≡ y → r ≡ x ++ y
 joined_are r a b x y e f g = e ∙ ap (λ l. l ++ b) f ∙ ap (λ l. x ++ l) g

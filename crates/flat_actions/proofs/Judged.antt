@@ -9,12 +9,12 @@ use Rattle.obj_memory.specs.declared.judgement.Verdict.TheVariants.{Outside, Dea
 use Rattle.obj_memory.specs.Judgement.{judge}
 use Rattle.source_meaning.specs.State.{State as Source, Outcome as Completed, Ended, Run, on}
 use Rattle.source_meaning.specs.Actions.{place_or_stop, located}
-use Rattle.flat_meaning.specs.declared.instruction.FlatInstruction.{FlatInstruction}
-use Rattle.flat_meaning.specs.State.{State}
-use Rattle.flat_meaning.specs.Words.{IsOfWords}
-use Rattle.flat_meaning.specs.Meaning.{Context, Goes}
-use Rattle.flat_routines.specs.Routine.{Outcome, Continues, Halts, Reaches, Either, Never}
-use Rattle.flat_routines.proofs.Rules.{weaken, ends_there, next}
+use Rattle.flat_code.specs.declared.instruction.FlatInstruction.{FlatInstruction}
+use Rattle.flat_code.specs.State.{State}
+use Rattle.flat_code.specs.Words.{IsOfWords}
+use Rattle.flat_code.specs.Meaning.{Context, Goes}
+use Rattle.flat_code.specs.Routines.Routine.{Outcome, Continues, Halts, Reaches, Either, Never}
+use Rattle.flat_code.proofs.Routines.Rules.{weaken, ends_there, next}
 use Rattle.flat_actions.specs.Judgement.Judging.{IsSameBut, IsJudged}
 
 -- ---- in the source

@@ -1,5 +1,6 @@
 -- A pointer is narrowed: over registers of its own, and to what the definition says.
-use Rattle.std.proofs.Common.{◌≡◌, ◌≢◌, ℕ, ◌+◌, ◌-◌, ◌%◌, ◌^◌, ◌<◌, ◌≤◌, max, min, List, [], ◌∷◌, Bool, map, true, refl, sym}
+use Rattle.std.proofs.Common.{◌≡◌, ◌≢◌, ℕ, ◌+◌, ◌-◌, ◌%◌, ◌^◌, ◌<◌, ◌≤◌, max, min, List, [], ◌∷◌, Bool, map, true, refl}
+use Rattle.std.proofs.Common.{sym}
 use Rattle.std.proofs.Common.{ap, ap₂, ◌∙◌, subst, arith, ⊎_elim}
 use Rattle.std.proofs.lemmas.Bool.{cases_eq}
 use Rattle.addr_map.specs.Places.{MapSizes, AreMapped}
@@ -12,28 +13,28 @@ use Rattle.obj_memory.specs.declared.value.Value.{Value}
 use Rattle.obj_memory.specs.Objects.{Objects}
 use Rattle.obj_memory.specs.Judgement.{narrowed, narrowed_tag}
 use Rattle.obj_memory.specs.Sound.{IsSoundTag}
-use Rattle.flat_meaning.specs.declared.instruction.RightOperand.{RightOperand}
-use Rattle.flat_meaning.specs.declared.instruction.RightOperand.TheVariants.{Register, Number}
-use Rattle.flat_meaning.specs.declared.instruction.FlatInstruction.{FlatInstruction}
-use Rattle.flat_meaning.specs.declared.instruction.FlatInstruction.TheVariants.{Operate, Move}
-use Rattle.flat_meaning.specs.Memory.{put}
-use Rattle.flat_meaning.specs.State.{State, Values}
-use Rattle.flat_meaning.specs.Words.{IsOfWords}
-use Rattle.flat_meaning.specs.Meaning.{Context, Goes, right_value}
-use Rattle.flat_meaning.proofs.Stored.{put_other}
-use Rattle.flat_routines.specs.declared.registers.Held.{Held}
-use Rattle.flat_routines.specs.Registers.{IsNoneOf, OthersStay}
-use Rattle.flat_routines.specs.Routine.{Does, Either, Never, Outcome, Continues, Halts, Reaches}
-use Rattle.flat_routines.specs.Effects.{worked, effects}
-use Rattle.flat_routines.specs.Renaming.{all_fit, rename, through}
-use Rattle.flat_routines.specs.Metadata.{Metadata, ShowsNothing, metadata_in}
-use Rattle.flat_routines.specs.Objects.StandsFor.{Views, Keys, spell, Spells}
-use Rattle.flat_routines.proofs.Steps.{has_self}
-use Rattle.flat_routines.proofs.Rules.{branch, line_on, arrived, weaken}
-use Rattle.flat_routines.proofs.Branches.{if_equal, if_unequal, if_less, if_not_less, if_below, if_not_below}
-use Rattle.flat_routines.proofs.Distinct.{AreRegisters, register_of, registers_rename, others_stay}
-use Rattle.flat_routines.proofs.Words.{same_metadata}
-use Rattle.flat_routines.proofs.Wrapped.{routine}
+use Rattle.flat_code.specs.declared.instruction.RightOperand.{RightOperand}
+use Rattle.flat_code.specs.declared.instruction.RightOperand.TheVariants.{Register, Number}
+use Rattle.flat_code.specs.declared.instruction.FlatInstruction.{FlatInstruction}
+use Rattle.flat_code.specs.declared.instruction.FlatInstruction.TheVariants.{Operate, Move}
+use Rattle.flat_code.specs.Memory.{put}
+use Rattle.flat_code.specs.State.{State, Values}
+use Rattle.flat_code.specs.Words.{IsOfWords}
+use Rattle.flat_code.specs.Meaning.{Context, Goes, right_value}
+use Rattle.flat_code.proofs.Stored.{put_other}
+use Rattle.flat_code.specs.declared.registers.Held.{Held}
+use Rattle.flat_code.specs.Routines.Registers.{IsNoneOf, OthersStay}
+use Rattle.flat_code.specs.Routines.Routine.{Does, Either, Never, Outcome, Continues, Halts, Reaches}
+use Rattle.flat_code.specs.Routines.Effects.{worked, effects}
+use Rattle.flat_code.specs.Routines.Renaming.{all_fit, rename, through}
+use Rattle.flat_code.specs.Routines.Metadata.{Metadata, ShowsNothing, metadata_in}
+use Rattle.flat_code.specs.Routines.Objects.StandsFor.{Views, Keys, spell, Spells}
+use Rattle.flat_code.proofs.Routines.Steps.{has_self}
+use Rattle.flat_code.proofs.Routines.Rules.{branch, line_on, arrived, weaken}
+use Rattle.flat_code.proofs.Routines.Branches.{if_equal, if_unequal, if_less, if_not_less, if_below, if_not_below}
+use Rattle.flat_code.proofs.Routines.Distinct.{AreRegisters, register_of, registers_rename, others_stay}
+use Rattle.flat_code.proofs.Routines.Words.{same_metadata}
+use Rattle.flat_code.proofs.Routines.Wrapped.{routine}
 use Rattle.shadow_space.proofs.Entries.{agrees_shows, agrees_memory, context_of}
 use Rattle.lock_space.proofs.Spaces.{locks_laid_out}
 use Rattle.flat_actions.specs.Judgement.Testing.{IsToTest}

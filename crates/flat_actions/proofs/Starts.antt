@@ -6,14 +6,14 @@ use Rattle.obj_memory.specs.declared.value.Tag.{Tag}
 use Rattle.obj_memory.specs.declared.value.Tag.TheVariants.{Untagged, OfFunction, OfObject}
 use Rattle.obj_memory.specs.Objects.{Objects, object_at}
 use Rattle.source_meaning.specs.State.{State as Source}
-use Rattle.flat_meaning.specs.Memory.{Bytes, load}
-use Rattle.flat_meaning.specs.State.{State}
-use Rattle.flat_meaning.proofs.Stored.{load_kept}
-use Rattle.flat_routines.specs.Metadata.{View, IsObjectWord}
-use Rattle.flat_routines.proofs.Words.{zero_loaded}
-use Rattle.flat_routines.specs.Objects.StandsFor.{Views, IsLock, global_lock, spell, StandsFor}
-use Rattle.flat_routines.specs.Objects.Start.{start_keys, IsStart}
-use Rattle.flat_routines.proofs.Objects.Starts.{starts as start_stands}
+use Rattle.flat_code.specs.Memory.{Bytes, load}
+use Rattle.flat_code.specs.State.{State}
+use Rattle.flat_code.proofs.Stored.{load_kept}
+use Rattle.flat_code.specs.Routines.Metadata.{View, IsObjectWord}
+use Rattle.flat_code.proofs.Routines.Words.{zero_loaded}
+use Rattle.flat_code.specs.Routines.Objects.StandsFor.{Views, IsLock, global_lock, spell, StandsFor}
+use Rattle.flat_code.specs.Routines.Objects.Start.{start_keys, IsStart}
+use Rattle.flat_code.proofs.Routines.Objects.Starts.{starts as start_stands}
 use Rattle.shadow_space.specs.declared.start.StartEntry.{StartEntry}
 use Rattle.shadow_space.specs.Start.{metadata_of, AreRead}
 use Rattle.lock_space.proofs.Spaces.{locks_laid_out, own_lock}

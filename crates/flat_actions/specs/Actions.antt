@@ -10,15 +10,15 @@ use Rattle.obj_memory.specs.Objects.{Objects, object_at}
 use Rattle.obj_memory.specs.Sound.{IsSoundTag}
 use Rattle.source_meaning.specs.State.{State as Source, Outcome as Completed, Gives, Ended, Paused, Run}
 use Rattle.source_meaning.specs.Acting.{state_of}
-use Rattle.flat_meaning.specs.declared.instruction.FlatInstruction.{FlatInstruction}
-use Rattle.flat_meaning.specs.Memory.{Bytes}
-use Rattle.flat_meaning.specs.State.{State, Values}
-use Rattle.flat_meaning.specs.Meaning.{Context}
-use Rattle.flat_routines.specs.declared.registers.Held.{Held}
-use Rattle.flat_routines.specs.Registers.{OthersStay}
-use Rattle.flat_routines.specs.Routine.{Does, Outcome, Continues, Halts}
-use Rattle.flat_routines.specs.Metadata.{View, ShowsNothing, held_registers}
-use Rattle.flat_routines.specs.Objects.StandsFor.{Views, Keys, Spells, StandsFor}
+use Rattle.flat_code.specs.declared.instruction.FlatInstruction.{FlatInstruction}
+use Rattle.flat_code.specs.Memory.{Bytes}
+use Rattle.flat_code.specs.State.{State, Values}
+use Rattle.flat_code.specs.Meaning.{Context}
+use Rattle.flat_code.specs.declared.registers.Held.{Held}
+use Rattle.flat_code.specs.Routines.Registers.{OthersStay}
+use Rattle.flat_code.specs.Routines.Routine.{Does, Outcome, Continues, Halts}
+use Rattle.flat_code.specs.Routines.Metadata.{View, ShowsNothing, held_registers}
+use Rattle.flat_code.specs.Routines.Objects.StandsFor.{Views, Keys, Spells, StandsFor}
 use Rattle.lock_space.specs.Locks.{key_counter, AreLocksGood}
 use Rattle.heap_space.specs.Table.{block_rows, IsTableGood}
 

@@ -2,13 +2,13 @@
 use Rattle.std.specs.Prelude.{◌≡◌, ℕ, ◌+◌, ◌*◌, ◌%◌, ◌<◌, ◌≤◌, List, [], true}
 use Rattle.addr_map.specs.declared.region.Region.TheVariants.{Heap, StructureValues}
 use Rattle.addr_map.specs.Places.{MapSizes, objects_begin, region_start, region_end}
-use Rattle.flat_meaning.specs.declared.instruction.FlatInstruction.{FlatInstruction}
-use Rattle.flat_meaning.specs.Memory.{Bytes, KeepsBut}
-use Rattle.flat_meaning.specs.State.{State}
-use Rattle.flat_routines.specs.Registers.{OthersStay}
-use Rattle.flat_routines.specs.Routine.{Does, Either, Never}
-use Rattle.flat_routines.specs.Metadata.{View, ShowsNothing}
-use Rattle.flat_routines.specs.Objects.Changes.{IsMoved}
+use Rattle.flat_code.specs.declared.instruction.FlatInstruction.{FlatInstruction}
+use Rattle.flat_code.specs.Memory.{Bytes, KeepsBut}
+use Rattle.flat_code.specs.State.{State}
+use Rattle.flat_code.specs.Routines.Registers.{OthersStay}
+use Rattle.flat_code.specs.Routines.Routine.{Does, Either, Never}
+use Rattle.flat_code.specs.Routines.Metadata.{View, ShowsNothing}
+use Rattle.flat_code.specs.Routines.Objects.Changes.{IsMoved}
 use Rattle.flat_actions.specs.Actions.{views_of, AreSpacesGood}
 
 -- what a list of instructions does in functions of the runtime, within so many steps

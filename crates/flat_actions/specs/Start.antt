@@ -6,11 +6,11 @@ use Rattle.obj_memory.specs.declared.object.Storage.TheVariants.{Static}
 use Rattle.obj_memory.specs.declared.value.Tag.TheVariants.{Untagged}
 use Rattle.obj_memory.specs.Objects.{Objects, object_at}
 use Rattle.obj_memory.specs.Sound.{IsSound, AreDisjoint}
-use Rattle.flat_meaning.specs.Memory.{Bytes, load}
-use Rattle.flat_routines.specs.Registers.{IsNoneOf}
-use Rattle.flat_routines.specs.Metadata.{Metadata, View}
-use Rattle.flat_routines.specs.Objects.StandsFor.{Views, IsPlaced, spell}
-use Rattle.flat_routines.specs.Objects.Start.{start_keys}
+use Rattle.flat_code.specs.Memory.{Bytes, load}
+use Rattle.flat_code.specs.Routines.Registers.{IsNoneOf}
+use Rattle.flat_code.specs.Routines.Metadata.{Metadata, View}
+use Rattle.flat_code.specs.Routines.Objects.StandsFor.{Views, IsPlaced, spell}
+use Rattle.flat_code.specs.Routines.Objects.Start.{start_keys}
 use Rattle.shadow_space.specs.declared.start.StartEntry.{StartEntry}
 use Rattle.shadow_space.specs.Start.{metadata_of, words_of, IsStarted}
 use Rattle.lock_space.specs.Locks.{IsLockStart}

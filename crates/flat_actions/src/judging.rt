@@ -1,16 +1,15 @@
 //! The routine that judges an access.
 
 ghost use Rattle.std.specs.Prelude.{◌≡◌, ◌≤◌, ◌^◌, IfOk, ◌∷◌, ◌+◌};
-ghost use Rattle.flat_routines.specs.Shape.{HasShape};
-ghost use Rattle.flat_routines.specs.Registers.{AreBelow};
-ghost use Rattle.flat_routines.specs.Metadata.{held_registers};
+ghost use Rattle.flat_code.specs.Routines.Shape.{HasShape};
+ghost use Rattle.flat_code.specs.Routines.Registers.{AreBelow};
+ghost use Rattle.flat_code.specs.Routines.Metadata.{held_registers};
 ghost use Rattle.flat_actions.specs.Judgement.Judging.{IsJudgeRoutine};
 ghost use Rattle.flat_actions.specs.Judgement.Code.{judge_code};
 
 use crate::lists::joined;
 use crate::testing::{spatial_instructions, temporal_instructions};
-use flat_meaning::{FlatInstruction, RightOperand};
-use flat_routines::Held;
+use flat_code::{FlatInstruction, Held, RightOperand};
 use sb_base::Line;
 use std::alloc::{AllocError, Global};
 

@@ -4,15 +4,15 @@ ghost use Rattle.std.specs.Prelude.{◌≡◌, ℕ, ◌+◌, List, true};
 ghost use Rattle.addr_map.specs.Places.{MapSizes, AreMapped};
 ghost use Rattle.obj_memory.specs.Objects.{Objects};
 ghost use Rattle.source_meaning.specs.State.{State as Source};
-ghost use Rattle.flat_meaning.specs.declared.instruction.RightOperand.{RightOperand};
-ghost use Rattle.flat_meaning.specs.Memory.{Bytes};
-ghost use Rattle.flat_meaning.specs.State.{State};
-ghost use Rattle.flat_routines.specs.declared.registers.Held.{Held};
-ghost use Rattle.flat_routines.specs.Registers.{AreBelow};
-ghost use Rattle.flat_routines.specs.Metadata.{held_registers};
-ghost use Rattle.flat_routines.specs.InputOutput.{IsWithoutInputOutput};
-ghost use Rattle.flat_routines.specs.Shape.{HasShape, has_right};
-ghost use Rattle.flat_routines.specs.Objects.Start.{start_keys};
+ghost use Rattle.flat_code.specs.declared.instruction.RightOperand.{RightOperand};
+ghost use Rattle.flat_code.specs.Memory.{Bytes};
+ghost use Rattle.flat_code.specs.State.{State};
+ghost use Rattle.flat_code.specs.declared.registers.Held.{Held};
+ghost use Rattle.flat_code.specs.Routines.Registers.{AreBelow};
+ghost use Rattle.flat_code.specs.Routines.Metadata.{held_registers};
+ghost use Rattle.flat_code.specs.Routines.InputOutput.{IsWithoutInputOutput};
+ghost use Rattle.flat_code.specs.Routines.Shape.{HasShape, has_right};
+ghost use Rattle.flat_code.specs.Routines.Objects.Start.{start_keys};
 ghost use Rattle.shadow_space.specs.declared.start.StartEntry.{StartEntry};
 ghost use Rattle.flat_actions.specs.Actions.{views_of, IsShown, IsFor};
 ghost use Rattle.flat_actions.specs.Judgement.Code.{spatial_code, temporal_code};
@@ -34,9 +34,9 @@ pub fn the_start_stands_for_the_source<S: ShadowForm>()
         (S.IsGood map) x f }
 {}
 
-/// The instructions of both tests of an access test it, over whatever registers meet the premises of `spatial_check` and
-/// `temporal_check`, in functions of the program and of the runtime. They are seven and three, and name one register
-/// behind those that they are given; a size that is a number has to be one that an instruction holds.
+/// The instructions of both tests of an access test it, over whatever registers meet the premises of `spatial_check`
+/// and `temporal_check`, in functions of the program and of the runtime. They are seven and three, and name one
+/// register behind those that they are given; a size that is a number has to be one that an instruction holds.
 pub fn the_tests_of_an_access_are_exact()
     ensures spatial { (h : Held) (size : RightOperand) (line t : ℕ) → AreBelow t (held_registers h) → IsBelow t size
         → IsSpatialRoutine h size line t (spatial_code h size line t) }
@@ -51,9 +51,9 @@ pub fn the_tests_of_an_access_are_exact()
     ensures temporal_computes { (h : Held) (line t : ℕ) → IsWithoutInputOutput (temporal_code h line t) }
 {}
 
-/// The instructions that narrow a pointer do so over whatever registers meet the premise of `narrow`, in functions of the
-/// program and of the runtime. They are eight, and name one register behind those that they are given; an operand that
-/// is a number has to be one that an instruction holds.
+/// The instructions that narrow a pointer do so over whatever registers meet the premise of `narrow`, in functions of
+/// the program and of the runtime. They are eight, and name one register behind those that they are given; an operand
+/// that is a number has to be one that an instruction holds.
 pub fn pointers_are_narrowed_exactly()
     ensures narrows { (h : Held) (offset size : RightOperand) (t : ℕ) → CanNarrow h offset size t
         → IsNarrowRoutine h offset size t (narrow_code h offset size t) }

@@ -2,11 +2,10 @@
 //! branch passes over, is more than fits memory.
 
 ghost use Rattle.std.specs.Prelude.{◌≡◌, ◌+◌, ◌<◌, ◌^◌, ◌++◌, IfOk, length};
-ghost use Rattle.flat_routines.specs.Routine.{unless_code, until_code};
+ghost use Rattle.flat_code.specs.Routines.Routine.{unless_code, until_code};
 ghost use Rattle.flat_actions.specs.Lists.{give_code, guarded_code};
 
-use flat_meaning::{FlatInstruction, RightOperand};
-use flat_routines::Held;
+use flat_code::{FlatInstruction, Held, RightOperand};
 use rv_isa::BranchOp;
 use std::alloc::{AllocError, Global};
 

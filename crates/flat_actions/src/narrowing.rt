@@ -1,20 +1,19 @@
 //! Pointers to members: SoftBound's narrowing of bounds.
 
 ghost use Rattle.std.specs.Prelude.{◌≡◌, ◌≤◌, ◌^◌, IfOk};
-ghost use Rattle.flat_routines.specs.InputOutput.{IsWithoutInputOutput};
+ghost use Rattle.flat_code.specs.Routines.InputOutput.{IsWithoutInputOutput};
 ghost use Rattle.flat_actions.specs.Narrowing.{CanNarrow, IsNarrowRoutine, IsMoveOnRoutine, narrow_code};
 
-use flat_meaning::{FlatInstruction, RightOperand};
-use flat_routines::Held;
+use flat_code::{FlatInstruction, Held, RightOperand};
 use rv_isa::{BranchOp, RegOp};
 use std::alloc::{AllocError, Global};
 
 /// Narrows the pointer in `pointer`, in place, to a member of `size` bytes that begins `offset` bytes on: the address
 /// goes on, and the bounds are those where the old ones meet the member's bytes, also where its end is behind the last
-/// address. What has no lock word, and so is no pointer to an object, keeps its metadata: the address alone goes on. Both
-/// operands are numbers or registers other than those of the pointer that are written, its value, base and bound. It may
-/// write the registers from `scratch` on, and shows nothing: it takes no input and puts no output. The only refusal is
-/// that memory fails.
+/// address. What has no lock word, and so is no pointer to an object, keeps its metadata: the address alone goes on.
+/// Both operands are numbers or registers other than those of the pointer that are written, its value, base and bound.
+/// It may write the registers from `scratch` on, and shows nothing: it takes no input and puts no output. The only
+/// refusal is that memory fails.
 pub fn narrow(
     alloc: Global,
     pointer: Held,

@@ -1,14 +1,13 @@
 //! The tests of an access: SoftBound's check of the bounds, and CETS's check of the key.
 
 ghost use Rattle.std.specs.Prelude.{◌≡◌, ◌≤◌, ◌^◌, IfOk};
-ghost use Rattle.flat_routines.specs.Registers.{AreBelow};
-ghost use Rattle.flat_routines.specs.Metadata.{held_registers};
-ghost use Rattle.flat_routines.specs.InputOutput.{IsWithoutInputOutput};
+ghost use Rattle.flat_code.specs.Routines.Registers.{AreBelow};
+ghost use Rattle.flat_code.specs.Routines.Metadata.{held_registers};
+ghost use Rattle.flat_code.specs.Routines.InputOutput.{IsWithoutInputOutput};
 ghost use Rattle.flat_actions.specs.Judgement.Testing.{IsBelow, IsSpatialRoutine, IsTemporalRoutine};
 ghost use Rattle.flat_actions.specs.Judgement.Code.{spatial_code, temporal_code};
 
-use flat_meaning::{FlatInstruction, RightOperand};
-use flat_routines::Held;
+use flat_code::{FlatInstruction, Held, RightOperand};
 use rv_isa::{BranchOp, LoadOp, RegOp};
 use sb_base::{Ending, Line};
 use std::alloc::{AllocError, Global};

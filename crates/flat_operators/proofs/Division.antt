@@ -19,16 +19,16 @@ use Rattle.obj_memory.specs.declared.operator.BinaryOperator.TheVariants.{BitOr,
 use Rattle.obj_memory.specs.declared.operator.BinaryOperator.TheVariants.{GreaterOrEqual, Equal, NotEqual}
 use Rattle.obj_memory.specs.Integers.{fit, is_signed}
 use Rattle.obj_memory.specs.Operators.{quotient, remainder, unary_value, binary_value}
-use Rattle.flat_meaning.specs.declared.instruction.RightOperand.TheVariants.{Register, Number}
-use Rattle.flat_meaning.specs.declared.instruction.FlatInstruction.{FlatInstruction}
-use Rattle.flat_meaning.specs.declared.instruction.FlatInstruction.TheVariants.{Operate, End}
-use Rattle.flat_meaning.specs.State.{State}
-use Rattle.flat_meaning.specs.Words.{IsOfWords}
-use Rattle.flat_meaning.specs.Meaning.{Context, Goes}
-use Rattle.flat_routines.specs.Local.{counted}
-use Rattle.flat_routines.specs.Routine.{HasAt, Does, Outcome, Continues, Halts, Reaches}
-use Rattle.flat_routines.specs.Effects.{worked, effects}
-use Rattle.flat_routines.proofs.Rules.{branch, line_on, arrived, ended, weaken}
+use Rattle.flat_code.specs.declared.instruction.RightOperand.TheVariants.{Register, Number}
+use Rattle.flat_code.specs.declared.instruction.FlatInstruction.{FlatInstruction}
+use Rattle.flat_code.specs.declared.instruction.FlatInstruction.TheVariants.{Operate, End}
+use Rattle.flat_code.specs.State.{State}
+use Rattle.flat_code.specs.Words.{IsOfWords}
+use Rattle.flat_code.specs.Meaning.{Context, Goes}
+use Rattle.flat_code.specs.Routines.Local.{counted}
+use Rattle.flat_code.specs.Routines.Routine.{HasAt, Does, Outcome, Continues, Halts, Reaches}
+use Rattle.flat_code.specs.Routines.Effects.{worked, effects}
+use Rattle.flat_code.proofs.Routines.Rules.{branch, line_on, arrived, ended, weaken}
 use Rattle.flat_operators.specs.Operators.{constant_code, conversion_code, converted, divided_code}
 use Rattle.flat_operators.specs.Operators.{unary_code, binary_code}
 use Rattle.flat_operators.specs.Results.{IsUnchanged, Anywhere, IsResult}

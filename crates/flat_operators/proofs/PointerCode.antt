@@ -11,14 +11,14 @@ use Rattle.words.specs.TwosComplement.{low_bits}
 use Rattle.words.specs.Operations.{difference}
 use Rattle.obj_memory.specs.Integers.{fit}
 use Rattle.obj_memory.specs.Operators.{negated, quotient}
-use Rattle.flat_meaning.specs.declared.instruction.RightOperand.TheVariants.{Register}
-use Rattle.flat_meaning.specs.declared.instruction.FlatInstruction.TheVariants.{Operate}
-use Rattle.flat_meaning.specs.State.{State}
-use Rattle.flat_meaning.specs.Words.{IsOfWords}
-use Rattle.flat_meaning.specs.Meaning.{Context}
-use Rattle.flat_meaning.proofs.Stored.{put_other}
-use Rattle.flat_routines.specs.Routine.{Does}
-use Rattle.flat_routines.specs.Effects.{effects}
+use Rattle.flat_code.specs.declared.instruction.RightOperand.TheVariants.{Register}
+use Rattle.flat_code.specs.declared.instruction.FlatInstruction.TheVariants.{Operate}
+use Rattle.flat_code.specs.State.{State}
+use Rattle.flat_code.specs.Words.{IsOfWords}
+use Rattle.flat_code.specs.Meaning.{Context}
+use Rattle.flat_code.proofs.Stored.{put_other}
+use Rattle.flat_code.specs.Routines.Routine.{Does}
+use Rattle.flat_code.specs.Routines.Effects.{effects}
 use Rattle.flat_operators.specs.Operators.{constant_code}
 use Rattle.flat_operators.specs.Pointers.{address_forward, address_back, elements_between, shift_of, scaled_by}
 use Rattle.flat_operators.specs.Pointers.{offset_code, difference_code}
@@ -27,7 +27,7 @@ use Rattle.flat_operators.proofs.Sets.{does_straight, one_set, is_value, set_aga
 use Rattle.flat_operators.proofs.Values.{product_by, sum_by, difference_by, quotient_by}
 use Rattle.flat_operators.proofs.Operators.{Gives, both_give, both_all, constant_gives, length_constant, few_constant}
 use Rattle.flat_operators.proofs.Operators.{length_if}
-use Rattle.flat_routines.proofs.Straight.{effects_append}
+use Rattle.flat_code.proofs.Routines.Straight.{effects_append}
 
 -- ---- in the scratch register
 

@@ -1,16 +1,16 @@
 -- Registers that code sets one after another.
 use Rattle.std.proofs.Common.{◌≡◌, ℕ, ◌≤◌, List, length, refl, ◌∙◌, subst, arith}
-use Rattle.flat_meaning.specs.declared.instruction.FlatInstruction.{FlatInstruction}
-use Rattle.flat_meaning.specs.Memory.{put}
-use Rattle.flat_meaning.specs.State.{State}
-use Rattle.flat_meaning.specs.Words.{IsOfWords}
-use Rattle.flat_meaning.specs.Meaning.{Context}
-use Rattle.flat_meaning.proofs.Stored.{put_same, put_other}
-use Rattle.flat_routines.specs.Routine.{Does, Outcome, Continues}
-use Rattle.flat_routines.specs.Effects.{effects, AreAllowed}
-use Rattle.flat_routines.specs.Metadata.{ShowsNothing}
-use Rattle.flat_routines.proofs.Straight.{run_straight}
-use Rattle.flat_routines.proofs.Showing.{shows_both}
+use Rattle.flat_code.specs.declared.instruction.FlatInstruction.{FlatInstruction}
+use Rattle.flat_code.specs.Memory.{put}
+use Rattle.flat_code.specs.State.{State}
+use Rattle.flat_code.specs.Words.{IsOfWords}
+use Rattle.flat_code.specs.Meaning.{Context}
+use Rattle.flat_code.proofs.Stored.{put_same, put_other}
+use Rattle.flat_code.specs.Routines.Routine.{Does, Outcome, Continues}
+use Rattle.flat_code.specs.Routines.Effects.{effects, AreAllowed}
+use Rattle.flat_code.specs.Routines.Metadata.{ShowsNothing}
+use Rattle.flat_code.proofs.Routines.Straight.{run_straight}
+use Rattle.flat_code.proofs.Routines.Showing.{shows_both}
 use Rattle.flat_operators.specs.Results.{HasResult, IsUnchanged, Anywhere}
 
 -- one register and the work so far are set, and all else is as before

@@ -20,10 +20,10 @@ use Rattle.obj_memory.specs.declared.operator.BinaryOperator.TheVariants.{ShiftL
 use Rattle.obj_memory.specs.declared.operator.BinaryOperator.TheVariants.{BitOr, Less, Greater, LessOrEqual}
 use Rattle.obj_memory.specs.declared.operator.BinaryOperator.TheVariants.{GreaterOrEqual, Equal, NotEqual}
 use Rattle.obj_memory.specs.Integers.{is_signed, size_of}
-use Rattle.flat_meaning.specs.declared.instruction.RightOperand.TheVariants.{Register, Number}
-use Rattle.flat_meaning.specs.declared.instruction.FlatInstruction.{FlatInstruction}
-use Rattle.flat_meaning.specs.declared.instruction.FlatInstruction.TheVariants.{Constant, Move, Operate, Operate32}
-use Rattle.flat_meaning.specs.declared.instruction.FlatInstruction.TheVariants.{Branch, End}
+use Rattle.flat_code.specs.declared.instruction.RightOperand.TheVariants.{Register, Number}
+use Rattle.flat_code.specs.declared.instruction.FlatInstruction.{FlatInstruction}
+use Rattle.flat_code.specs.declared.instruction.FlatInstruction.TheVariants.{Constant, Move, Operate, Operate32}
+use Rattle.flat_code.specs.declared.instruction.FlatInstruction.TheVariants.{Branch, End}
 
 -- ---- constants
 

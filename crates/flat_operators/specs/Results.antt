@@ -2,9 +2,9 @@
 use Rattle.std.specs.Prelude.{◌≡◌, ◌≢◌, ℕ, ◌<◌, Option, Some, None}
 use Rattle.sb_base.specs.declared.ending.Ending.TheVariants as ending
 use Rattle.sb_base.specs.Endings.{code_of, report_of}
-use Rattle.flat_meaning.specs.State.{State}
-use Rattle.flat_routines.specs.Routine.{Outcome, Continues, Halts}
-use Rattle.flat_routines.specs.Metadata.{ShowsNothing}
+use Rattle.flat_code.specs.State.{State}
+use Rattle.flat_code.specs.Routines.Routine.{Outcome, Continues, Halts}
+use Rattle.flat_code.specs.Routines.Metadata.{ShowsNothing}
 
 -- one register below scratch has a value, all others there, and the memory, are as before, and nothing was shown
 pub record HasResult (into value scratch : ℕ) (before after : State) : Type 0 where

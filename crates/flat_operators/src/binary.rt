@@ -1,8 +1,8 @@
 //! The binary operators on integers (C99 6.5.5 to 6.5.12).
 
 ghost use Rattle.std.specs.Prelude.{◌≡◌, ◌++◌, ◌∷◌, [], OnOk};
-ghost use Rattle.flat_meaning.specs.declared.instruction.FlatInstruction.TheVariants.{Operate as Operation};
-ghost use Rattle.flat_meaning.specs.declared.instruction.RightOperand.TheVariants.{Register, Number};
+ghost use Rattle.flat_code.specs.declared.instruction.FlatInstruction.TheVariants.{Operate as Operation};
+ghost use Rattle.flat_code.specs.declared.instruction.RightOperand.TheVariants.{Register, Number};
 ghost use Rattle.std.specs.Prelude.{if◌then◌else◌};
 ghost use Rattle.rv_isa.specs.declared.instruction.RegOp.TheVariants as op;
 ghost use Rattle.obj_memory.specs.Integers.{is_signed};
@@ -11,7 +11,7 @@ ghost use Rattle.flat_operators.specs.Operators.{shift_left_code, shift_right_co
 
 use crate::conversion::{put_conversion, put_converted};
 use crate::list::put;
-use flat_meaning::{FlatInstruction, RightOperand};
+use flat_code::{FlatInstruction, RightOperand};
 use obj_memory::{BinaryOperator, IntType};
 use rv_isa::{BranchOp, RegOp, RegOp32};
 use sb_base::{Ending, Line};

@@ -4,7 +4,7 @@ ghost use Rattle.std.specs.Prelude.{◌≡◌, ◌++◌, OnOk};
 ghost use Rattle.flat_operators.specs.Operators.{appended, constant_code, is_short, long_code, medium_code, wide_code};
 
 use crate::list::put;
-use flat_meaning::{FlatInstruction, RightOperand};
+use flat_code::{FlatInstruction, RightOperand};
 use rv_isa::RegOp;
 use std::alloc::AllocError;
 

@@ -4,7 +4,7 @@ ghost use Rattle.std.specs.Prelude.{◌≡◌, ◌++◌, OnOk};
 ghost use Rattle.flat_operators.specs.Operators.{conversion_code, converted, two_shifts};
 
 use crate::list::put;
-use flat_meaning::{FlatInstruction, RightOperand};
+use flat_code::{FlatInstruction, RightOperand};
 use obj_memory::IntType;
 use rv_isa::{RegOp, RegOp32};
 use std::alloc::AllocError;

@@ -8,10 +8,10 @@ ghost use Rattle.obj_memory.specs.declared.operator.UnaryOperator.{UnaryOperator
 ghost use Rattle.obj_memory.specs.declared.operator.BinaryOperator.{BinaryOperator};
 ghost use Rattle.obj_memory.specs.Integers.{fit};
 ghost use Rattle.obj_memory.specs.Operators.{unary_value, binary_value};
-ghost use Rattle.flat_meaning.specs.Meaning.{Context};
-ghost use Rattle.flat_routines.specs.Routine.{Does};
-ghost use Rattle.flat_routines.specs.InputOutput.{IsWithoutInputOutput};
-ghost use Rattle.flat_routines.specs.Shape.{HasShape};
+ghost use Rattle.flat_code.specs.Meaning.{Context};
+ghost use Rattle.flat_code.specs.Routines.Routine.{Does};
+ghost use Rattle.flat_code.specs.Routines.InputOutput.{IsWithoutInputOutput};
+ghost use Rattle.flat_code.specs.Routines.Shape.{HasShape};
 ghost use Rattle.flat_operators.specs.Operators.{constant_code, conversion_code, unary_code, binary_code};
 ghost use Rattle.flat_operators.specs.Pointers.{address_back, address_forward, difference_code, elements_between};
 ghost use Rattle.flat_operators.specs.Pointers.{offset_code};

@@ -7,7 +7,7 @@ ghost use Rattle.flat_operators.specs.Pointers.{difference_code, offset_code, sc
 use crate::binary::{Registers, put_operator};
 use crate::constant::put_constant;
 use crate::list::put;
-use flat_meaning::{FlatInstruction, RightOperand};
+use flat_code::{FlatInstruction, RightOperand};
 use rv_isa::RegOp;
 use std::alloc::AllocError;
 
@@ -78,8 +78,8 @@ pub fn put_forward(
     put_offset(code, RegOp::Add, size, registers)
 }
 
-/// Puts what moves the address in `left` back by as many elements of `size` bytes as `right` has behind a list. It fails
-/// only for want of memory.
+/// Puts what moves the address in `left` back by as many elements of `size` bytes as `right` has behind a list. It
+/// fails only for want of memory.
 pub fn put_back(
     code: &mut Vec<FlatInstruction>,
     size: u64,
@@ -91,8 +91,8 @@ pub fn put_back(
     put_offset(code, RegOp::Sub, size, registers)
 }
 
-/// Puts the difference of the addresses in `left` and `right`, in elements of `size` bytes, behind a list. It fails only
-/// for want of memory.
+/// Puts the difference of the addresses in `left` and `right`, in elements of `size` bytes, behind a list. It fails
+/// only for want of memory.
 #[tactic(auto, unfolding(crate::specs::Pointers::difference_code))]
 pub fn put_difference(
     code: &mut Vec<FlatInstruction>,

@@ -1,14 +1,14 @@
 //! The unary operators on integers (C99 6.5.3.3).
 
 ghost use Rattle.std.specs.Prelude.{◌≡◌, ◌++◌, ◌∷◌, OnOk};
-ghost use Rattle.flat_meaning.specs.declared.instruction.FlatInstruction.TheVariants.{Constant, Operate as Operation};
-ghost use Rattle.flat_meaning.specs.declared.instruction.RightOperand.TheVariants.{Register};
+ghost use Rattle.flat_code.specs.declared.instruction.FlatInstruction.TheVariants.{Constant, Operate as Operation};
+ghost use Rattle.flat_code.specs.declared.instruction.RightOperand.TheVariants.{Register};
 ghost use Rattle.rv_isa.specs.declared.instruction.RegOp.TheVariants as op;
 ghost use Rattle.flat_operators.specs.Operators.{converted, unary_code};
 
 use crate::conversion::{put_conversion, put_converted};
 use crate::list::put;
-use flat_meaning::{FlatInstruction, RightOperand};
+use flat_code::{FlatInstruction, RightOperand};
 use obj_memory::{IntType, UnaryOperator};
 use rv_isa::RegOp;
 use std::alloc::AllocError;

@@ -10,12 +10,12 @@ use Rattle.rv_isa.specs.declared.instruction.BranchOp.TheVariants.{Beq, Bne, Blt
 use Rattle.rv_isa.specs.declared.instruction.RegOp.{RegOp}
 use Rattle.rv_isa.specs.declared.instruction.RegOp.TheVariants.{Sub, Slt, Sltu, Xor}
 use Rattle.rv_isa.specs.Results.{bit_of, branch_taken, reg_result}
-use Rattle.flat_meaning.specs.declared.instruction.RightOperand.{RightOperand}
-use Rattle.flat_meaning.specs.declared.instruction.RightOperand.TheVariants.{Register, Number}
-use Rattle.flat_meaning.specs.Memory.{put}
-use Rattle.flat_meaning.specs.State.{Values}
-use Rattle.flat_meaning.specs.Meaning.{right_value}
-use Rattle.flat_meaning.specs.Words.{AreWords}
+use Rattle.flat_code.specs.declared.instruction.RightOperand.{RightOperand}
+use Rattle.flat_code.specs.declared.instruction.RightOperand.TheVariants.{Register, Number}
+use Rattle.flat_code.specs.Memory.{put}
+use Rattle.flat_code.specs.State.{Values}
+use Rattle.flat_code.specs.Meaning.{right_value}
+use Rattle.flat_code.specs.Words.{AreWords}
 use Rattle.flat_propagation.specs.declared.fact.Fact.{Fact}
 use Rattle.flat_propagation.specs.declared.fact.Fact.TheVariants.{Unknown, Same, Word, Difference, Condition}
 use Rattle.flat_propagation.specs.Facts.{Facts, Says, Hold, opposite, names, right_names, unless_named, with_fact}

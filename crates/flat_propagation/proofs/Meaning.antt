@@ -14,26 +14,26 @@ use Rattle.rv_isa.specs.declared.instruction.BranchOp.{BranchOp}
 use Rattle.rv_isa.specs.declared.instruction.BranchOp.TheVariants.{Beq, Bne, Blt, Bge, Bltu, Bgeu}
 use Rattle.rv_isa.specs.Results.{wrap, low_word, bit_of, branch_taken, reg_result, reg32_result, load_bytes, extended}
 use Rattle.rv_isa.specs.Results.{store_bytes}
-use Rattle.flat_meaning.specs.declared.instruction.RightOperand.{RightOperand}
-use Rattle.flat_meaning.specs.declared.instruction.RightOperand.TheVariants.{Register, Number}
-use Rattle.flat_meaning.specs.declared.instruction.FlatInstruction.{FlatInstruction}
-use Rattle.flat_meaning.specs.declared.instruction.FlatInstruction.TheVariants.{Constant, Move, Operate, Operate32}
-use Rattle.flat_meaning.specs.declared.instruction.FlatInstruction.TheVariants.{Load, Store, Branch, JumpForward}
-use Rattle.flat_meaning.specs.declared.instruction.FlatInstruction.TheVariants.{JumpBack, Turn, Call, CallAddress}
-use Rattle.flat_meaning.specs.declared.instruction.FlatInstruction.TheVariants.{Return, Get, Put, Exit, End, Charged}
-use Rattle.flat_meaning.specs.declared.function.FlatFunction.{FlatFunction}
-use Rattle.flat_meaning.specs.declared.function.FlatProgram.{FlatProgram}
-use Rattle.flat_meaning.specs.Memory.{Bytes, AreBytes, store, load}
-use Rattle.flat_meaning.specs.Spaces.{is_allowed}
-use Rattle.flat_meaning.specs.State.{Values, State, Frame, Stage, Stands, Over, Stuck, seen}
-use Rattle.flat_meaning.specs.Calls.{function_in, is_of_program, room_if, rooms, charged, arguments}
-use Rattle.flat_meaning.specs.Calls.{function_at}
-use Rattle.flat_meaning.specs.Meaning.{Context, Local, Goes, Ends, Leaves, Fails, right_value, with_register}
-use Rattle.flat_meaning.specs.Meaning.{with_access, address_in, loads, stores, received, local, has_room, enters}
-use Rattle.flat_meaning.specs.Meaning.{enters_at, parameters_of, results_of, returns, waiting, leaves, weight_of}
-use Rattle.flat_meaning.specs.Meaning.{local_cost, cost, goes_to, body_of, is_runtime_function, context}
-use Rattle.flat_meaning.specs.Meaning.{at_instruction, instruction_at, step, started, flat_meaning}
-use Rattle.flat_meaning.specs.Words.{AreWords, HasWords}
+use Rattle.flat_code.specs.declared.instruction.RightOperand.{RightOperand}
+use Rattle.flat_code.specs.declared.instruction.RightOperand.TheVariants.{Register, Number}
+use Rattle.flat_code.specs.declared.instruction.FlatInstruction.{FlatInstruction}
+use Rattle.flat_code.specs.declared.instruction.FlatInstruction.TheVariants.{Constant, Move, Operate, Operate32}
+use Rattle.flat_code.specs.declared.instruction.FlatInstruction.TheVariants.{Load, Store, Branch, JumpForward}
+use Rattle.flat_code.specs.declared.instruction.FlatInstruction.TheVariants.{JumpBack, Turn, Call, CallAddress}
+use Rattle.flat_code.specs.declared.instruction.FlatInstruction.TheVariants.{Return, Get, Put, Exit, End, Charged}
+use Rattle.flat_code.specs.declared.function.FlatFunction.{FlatFunction}
+use Rattle.flat_code.specs.declared.function.FlatProgram.{FlatProgram}
+use Rattle.flat_code.specs.Memory.{Bytes, AreBytes, store, load}
+use Rattle.flat_code.specs.Spaces.{is_allowed}
+use Rattle.flat_code.specs.State.{Values, State, Frame, Stage, Stands, Over, Stuck, seen}
+use Rattle.flat_code.specs.Calls.{function_in, is_of_program, room_if, rooms, charged, arguments}
+use Rattle.flat_code.specs.Calls.{function_at}
+use Rattle.flat_code.specs.Meaning.{Context, Local, Goes, Ends, Leaves, Fails, right_value, with_register}
+use Rattle.flat_code.specs.Meaning.{with_access, address_in, loads, stores, received, local, has_room, enters}
+use Rattle.flat_code.specs.Meaning.{enters_at, parameters_of, results_of, returns, waiting, leaves, weight_of}
+use Rattle.flat_code.specs.Meaning.{local_cost, cost, goes_to, body_of, is_runtime_function, context}
+use Rattle.flat_code.specs.Meaning.{at_instruction, instruction_at, step, started, flat_meaning}
+use Rattle.flat_code.specs.Words.{AreWords, HasWords}
 use Rattle.flat_propagation.specs.declared.fact.Fact.{Fact}
 use Rattle.flat_propagation.specs.declared.fact.Fact.TheVariants.{Unknown, Same, Word, Difference, Condition}
 use Rattle.flat_propagation.specs.Facts.{Facts, nothing, Says, Hold, opposite}

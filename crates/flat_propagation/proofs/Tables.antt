@@ -4,8 +4,8 @@ use Rattle.std.proofs.Common.{arith, Bool, true, false, not, List, [], ◌∷◌
 use Rattle.std.specs.Prelude.{slice_get, slice_set, nat_le, ◌==◌, ◌&&◌, ◌||◌, if◌then◌else◌}
 use Rattle.std.proofs.lemmas.Bool.{eqb-true, eq-eqb, le-leb, leb-true, cases_Bool, false≢true}
 use Rattle.std.proofs.lemmas.Option.{same_Some}
-use Rattle.flat_meaning.specs.declared.instruction.RightOperand.{RightOperand}
-use Rattle.flat_meaning.specs.declared.instruction.RightOperand.TheVariants.{Register, Number}
+use Rattle.flat_code.specs.declared.instruction.RightOperand.{RightOperand}
+use Rattle.flat_code.specs.declared.instruction.RightOperand.TheVariants.{Register, Number}
 use Rattle.flat_propagation.specs.declared.fact.Fact.{Fact}
 use Rattle.flat_propagation.specs.declared.fact.Fact.TheVariants.{Unknown, Same, Word, Difference, Condition}
 use Rattle.flat_propagation.specs.declared.table.Entry.{Entry}

@@ -1,8 +1,9 @@
 -- How facts stand in a table: each with the time at which it was recorded, and each register with the time at which it
 -- was last made, so that what is no longer known need not be looked for.
-use Rattle.std.specs.Prelude.{◌≡◌, ℕ, Bool, true, ◌&&◌, nat_le, if◌then◌else◌, ◌<◌, ◌≤◌, List, Option, Some, None, slice_get}
-use Rattle.flat_meaning.specs.declared.instruction.RightOperand.{RightOperand}
-use Rattle.flat_meaning.specs.declared.instruction.RightOperand.TheVariants.{Register, Number}
+use Rattle.std.specs.Prelude.{◌≡◌, ℕ, Bool, true, ◌&&◌, nat_le, if◌then◌else◌, ◌<◌, ◌≤◌, List, Option, Some, None}
+use Rattle.std.specs.Prelude.{slice_get}
+use Rattle.flat_code.specs.declared.instruction.RightOperand.{RightOperand}
+use Rattle.flat_code.specs.declared.instruction.RightOperand.TheVariants.{Register, Number}
 use Rattle.flat_propagation.specs.declared.fact.Fact.{Fact}
 use Rattle.flat_propagation.specs.declared.fact.Fact.TheVariants.{Unknown, Same, Word, Difference, Condition}
 use Rattle.flat_propagation.specs.declared.table.Entry.{Entry}

@@ -1,6 +1,6 @@
 //! What is known of the value of a virtual register before an instruction.
 
-use flat_meaning::RightOperand;
+use flat_code::RightOperand;
 use rv_isa::BranchOp;
 
 /// What is known of a value.

@@ -8,7 +8,7 @@ ghost use Rattle.flat_propagation.specs.Tables.{facts_of, IsBefore};
 use crate::fact::Fact;
 use crate::operands::{right_source_but, source_but};
 use crate::table::FactTable;
-use flat_meaning::{FlatInstruction, RightOperand};
+use flat_code::{FlatInstruction, RightOperand};
 use rv_isa::{BranchOp, RegOp};
 use std::alloc::AllocError;
 

@@ -3,12 +3,12 @@
 ghost use Rattle.std.specs.Prelude.{◌≡◌, ℕ, List};
 ghost use Rattle.behaviours.specs.Steps.{run};
 ghost use Rattle.addr_map.specs.Places.{MapSizes};
-ghost use Rattle.flat_meaning.specs.declared.function.FlatProgram.{FlatProgram};
-ghost use Rattle.flat_meaning.specs.Memory.{Bytes, AreBytes};
-ghost use Rattle.flat_meaning.specs.Meaning.{step, started, flat_meaning};
+ghost use Rattle.flat_code.specs.declared.function.FlatProgram.{FlatProgram};
+ghost use Rattle.flat_code.specs.Memory.{Bytes, AreBytes};
+ghost use Rattle.flat_code.specs.Meaning.{step, started, flat_meaning};
 ghost use Rattle.flat_propagation.specs.Propagated.{propagated};
 
-use flat_meaning::laws::steps_keep_words;
+use flat_code::laws::steps_keep_words;
 
 /// A propagated program is at the same stages, step by step, and means the same, moment by moment.
 pub fn propagated_programs_mean_the_same()

@@ -8,7 +8,7 @@ ghost use Rattle.flat_propagation.specs.Tables.{facts_of};
 
 use crate::fact::Fact;
 use crate::table::FactTable;
-use flat_meaning::RightOperand;
+use flat_code::RightOperand;
 use rv_isa::{RegOp, RegOp32};
 
 // The register that a value is a copy of, or itself.

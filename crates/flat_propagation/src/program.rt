@@ -13,7 +13,7 @@ use crate::rewrite::rewritten;
 use crate::table::FactTable;
 use crate::targets::targets_of;
 use data_flow::NodeSet;
-use flat_meaning::{FlatFunction, FlatInstruction, FlatProgram};
+use flat_code::{FlatFunction, FlatInstruction, FlatProgram};
 use std::alloc::{AllocError, Global};
 use tree_containers::Items;
 

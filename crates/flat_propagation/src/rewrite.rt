@@ -1,7 +1,7 @@
 //! Instructions whose operands are taken from where they come.
 
 ghost use Rattle.std.specs.Prelude.{◌≡◌};
-ghost use Rattle.flat_meaning.specs.declared.instruction.RightOperand.TheVariants.{Number};
+ghost use Rattle.flat_code.specs.declared.instruction.RightOperand.TheVariants.{Number};
 ghost use Rattle.flat_propagation.specs.Propagated.{unless_zero, if_zero, compared_zero, branch_on, moved, rewritten};
 ghost use Rattle.flat_propagation.specs.Tables.{facts_of};
 
@@ -9,7 +9,7 @@ use crate::fact::Fact;
 use crate::follow::opposite;
 use crate::operands::{is_short, right_of, right_source, right32_of, source, source_but};
 use crate::table::FactTable;
-use flat_meaning::{FlatInstruction, RightOperand};
+use flat_code::{FlatInstruction, RightOperand};
 use rv_isa::BranchOp;
 
 // A branch where a value is not 0.

@@ -7,7 +7,7 @@ ghost use Rattle.flat_propagation.specs.Facts.{names, right_names, unless_named,
 ghost use Rattle.flat_propagation.specs.Tables.{made_at, right_stays, stays, fact_among, facts_of, AreBefore, IsBefore};
 
 use crate::fact::Fact;
-use flat_meaning::RightOperand;
+use flat_code::RightOperand;
 use std::alloc::{AllocError, Global};
 
 /// What is recorded of a register.

@@ -5,7 +5,7 @@ ghost use Rattle.data_flow.specs.NodeSets.{is_in, node_count};
 ghost use Rattle.flat_propagation.specs.Known.{jumps_to, is_target};
 
 use data_flow::NodeSet;
-use flat_meaning::FlatInstruction;
+use flat_code::FlatInstruction;
 use std::alloc::{AllocError, Global};
 
 // Puts a place into the set, if the function has one with this number.

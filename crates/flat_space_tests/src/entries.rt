@@ -2,8 +2,7 @@
 
 use crate::interpreter::{Machine, default_map};
 use anyhow::Result;
-use flat_meaning::FlatInstruction;
-use flat_routines::Entry;
+use flat_code::{Entry, FlatInstruction};
 use shadow_space::ShadowForm;
 
 // Two words of one page, and words of other pages; the last is the last of its page.

@@ -3,7 +3,7 @@
 use crate::interpreter::{Machine, default_map};
 use addr_map::Region;
 use anyhow::Result;
-use flat_meaning::FlatInstruction;
+use flat_code::FlatInstruction;
 
 // Prints how many bytes behind the first of the heap a block of this size is placed with this key, and the size that is
 // found of it; each is none where there is no place.

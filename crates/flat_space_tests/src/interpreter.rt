@@ -2,7 +2,7 @@
 
 use addr_map::AddrMap;
 use anyhow::{Result, bail, ensure};
-use flat_meaning::{FlatInstruction, RightOperand};
+use flat_code::{FlatInstruction, RightOperand};
 use rv_isa::{BranchOp, RegOp};
 use sb_base::{Budgets, Ending};
 use std::alloc::{AllocError, Global};

@@ -3,7 +3,7 @@
 use crate::interpreter::{Machine, default_map};
 use addr_map::Region;
 use anyhow::Result;
-use flat_meaning::FlatInstruction;
+use flat_code::FlatInstruction;
 
 // The routines on lock words: the key that is made next, a fresh key and lock word, and one that is released.
 #[derive(Clone, Copy)]

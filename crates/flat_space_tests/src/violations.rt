@@ -3,7 +3,7 @@
 use crate::interpreter::{Machine, default_map};
 use addr_map::Region;
 use anyhow::{Context, Result};
-use flat_routines::{Entry, Held};
+use flat_code::{Entry, Held};
 use sb_base::Line;
 
 const POINTER: Held = Held {

@@ -7,8 +7,8 @@ use Rattle.obj_memory.specs.declared.object.Storage.TheVariants.{Static, Automat
 use Rattle.obj_memory.specs.Objects.{ObjectState, Objects, object_at}
 use Rattle.obj_memory.specs.Heap.{is_allocated, is_live_block, block_count, object_room}
 use Rattle.obj_memory.specs.Sound.{AreDisjoint, AreBeside}
-use Rattle.flat_routines.specs.Objects.StandsFor.{BlockRow, Keys, no_row, IsRowOf, IsTable}
-use Rattle.flat_routines.proofs.Spaces.Few.{at_most_of}
+use Rattle.flat_code.specs.Routines.Objects.StandsFor.{BlockRow, Keys, no_row, IsRowOf, IsTable}
+use Rattle.flat_code.proofs.Routines.Spaces.Few.{at_most_of}
 
 -- ---- live blocks
 

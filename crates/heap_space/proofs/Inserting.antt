@@ -5,24 +5,24 @@ use Rattle.std.proofs.lemmas.Bool.{cases_lt}
 use Rattle.addr_map.specs.Places.{MapSizes}
 use Rattle.rv_isa.specs.declared.instruction.BranchOp.TheVariants.{Beq}
 use Rattle.rv_isa.specs.Results.{reg_result, extended}
-use Rattle.flat_meaning.specs.declared.instruction.RightOperand.TheVariants.{Register}
-use Rattle.flat_meaning.specs.declared.instruction.FlatInstruction.{FlatInstruction}
-use Rattle.flat_meaning.specs.declared.instruction.FlatInstruction.TheVariants.{JumpBack}
-use Rattle.flat_meaning.specs.Memory.{Bytes, AreBytes, put, load, store, KeepsBut}
-use Rattle.flat_meaning.specs.State.{Values, State}
-use Rattle.flat_meaning.specs.Words.{IsOfWords}
-use Rattle.flat_meaning.specs.Meaning.{Context}
-use Rattle.flat_meaning.proofs.Stored.{load_beside, kept_beside, keeps_within, keeps_both, load_fits}
-use Rattle.flat_routines.specs.Routine.{HasAt, until_code}
-use Rattle.flat_routines.specs.Effects.{worked, effects}
-use Rattle.flat_routines.specs.Metadata.{metadata_at, ShowsNothing}
-use Rattle.flat_routines.proofs.Steps.{has_front}
-use Rattle.flat_routines.proofs.Regions.{IsLaidOut}
-use Rattle.flat_routines.proofs.Words.{store_four, IsOfFourWords, four_read, four_beside, metadata_kept}
-use Rattle.flat_routines.proofs.Branches.{are_equal, are_not_equal}
-use Rattle.flat_routines.specs.Spaces.Quiet.{AreQuiet}
-use Rattle.flat_routines.proofs.Spaces.Quiet.{in_spaces}
-use Rattle.flat_routines.proofs.Spaces.Rules.{ReachesQuietly, QuietTurn, quiet_end, quiet_loop}
+use Rattle.flat_code.specs.declared.instruction.RightOperand.TheVariants.{Register}
+use Rattle.flat_code.specs.declared.instruction.FlatInstruction.{FlatInstruction}
+use Rattle.flat_code.specs.declared.instruction.FlatInstruction.TheVariants.{JumpBack}
+use Rattle.flat_code.specs.Memory.{Bytes, AreBytes, put, load, store, KeepsBut}
+use Rattle.flat_code.specs.State.{Values, State}
+use Rattle.flat_code.specs.Words.{IsOfWords}
+use Rattle.flat_code.specs.Meaning.{Context}
+use Rattle.flat_code.proofs.Stored.{load_beside, kept_beside, keeps_within, keeps_both, load_fits}
+use Rattle.flat_code.specs.Routines.Routine.{HasAt, until_code}
+use Rattle.flat_code.specs.Routines.Effects.{worked, effects}
+use Rattle.flat_code.specs.Routines.Metadata.{metadata_at, ShowsNothing}
+use Rattle.flat_code.proofs.Routines.Steps.{has_front}
+use Rattle.flat_code.proofs.Routines.Regions.{IsLaidOut}
+use Rattle.flat_code.proofs.Routines.Words.{store_four, IsOfFourWords, four_read, four_beside, metadata_kept}
+use Rattle.flat_code.proofs.Routines.Branches.{are_equal, are_not_equal}
+use Rattle.flat_code.specs.Routines.Spaces.Quiet.{AreQuiet}
+use Rattle.flat_code.proofs.Routines.Spaces.Quiet.{in_spaces}
+use Rattle.flat_code.proofs.Routines.Spaces.Rules.{ReachesQuietly, QuietTurn, quiet_end, quiet_loop}
 use Rattle.heap_space.specs.Table.{row_cell}
 use Rattle.heap_space.specs.Routines.{move_up}
 use Rattle.heap_space.proofs.Regions.{IsTableLaidOut}

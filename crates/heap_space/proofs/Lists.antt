@@ -6,9 +6,9 @@ use Rattle.std.specs.Prelude.{nat_lt, nat_le}
 use Rattle.std.proofs.lemmas.Bool.{cases_lt, cond-true, cond-false, lt-ltb, le-ltb, le-leb, lt-leb}
 use Rattle.std.proofs.Math.Bool.{and-false}
 use Rattle.obj_memory.specs.Heap.{block_room}
-use Rattle.flat_meaning.specs.Memory.{Bytes, load}
-use Rattle.flat_routines.specs.Metadata.{Metadata, metadata_at}
-use Rattle.flat_routines.specs.Objects.StandsFor.{BlockRow}
+use Rattle.flat_code.specs.Memory.{Bytes, load}
+use Rattle.flat_code.specs.Routines.Metadata.{Metadata, metadata_at}
+use Rattle.flat_code.specs.Routines.Objects.StandsFor.{BlockRow}
 use Rattle.heap_space.specs.Rows.{row_end, AreInOrder, with_row, first_gap, row_place}
 use Rattle.heap_space.specs.Table.{row_at, rows_from}
 

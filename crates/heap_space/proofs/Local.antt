@@ -2,10 +2,10 @@
 use Rattle.std.proofs.Common.{◌≡◌, ℕ, ◌+◌, ◌-◌, ◌*◌, ◌<◌, ◌≤◌, [], sym, ap, ◌∙◌, subst, arith}
 use Rattle.addr_map.specs.declared.region.Region.TheVariants.{Heap, Blocks}
 use Rattle.addr_map.specs.Places.{MapSizes, region_size, region_start, region_end}
-use Rattle.flat_meaning.specs.Memory.{Bytes, load}
-use Rattle.flat_meaning.proofs.Stored.{load_kept}
-use Rattle.flat_routines.specs.Metadata.{metadata_at}
-use Rattle.flat_routines.proofs.Words.{metadata_kept}
+use Rattle.flat_code.specs.Memory.{Bytes, load}
+use Rattle.flat_code.proofs.Stored.{load_kept}
+use Rattle.flat_code.specs.Routines.Metadata.{metadata_at}
+use Rattle.flat_code.proofs.Routines.Words.{metadata_kept}
 use Rattle.heap_space.specs.Rows.{AreInOrder}
 use Rattle.heap_space.specs.Table.{total_cell, row_cell, block_total, rows_from, block_rows, IsTableGood}
 use Rattle.heap_space.specs.Table.{KeepsTable}

@@ -8,7 +8,7 @@ use Rattle.obj_memory.specs.Objects.{Objects, object_at}
 use Rattle.obj_memory.specs.Heap.{is_live_block, block_count, block_room, has_room, least_place}
 use Rattle.obj_memory.specs.Sound.{IsClearOf, AreDisjoint}
 use Rattle.obj_memory.proofs.Placing.{least_place_found, least_place_by, has_room_tells}
-use Rattle.flat_routines.specs.Objects.StandsFor.{BlockRow, Keys, no_row, IsTable}
+use Rattle.flat_code.specs.Routines.Objects.StandsFor.{BlockRow, Keys, no_row, IsTable}
 use Rattle.heap_space.specs.Rows.{row_end, AreInOrder, first_gap, row_place}
 use Rattle.heap_space.proofs.Lists.{gap_here, gap_behind, gap_most, gap_aligned, too_many, too_high, has_place}
 use Rattle.heap_space.proofs.Counting.{live_block, block_parts, rows_counted}

@@ -8,30 +8,31 @@ use Rattle.rv_isa.specs.declared.instruction.RegOp.TheVariants.{Add, Sub, Sll}
 use Rattle.rv_isa.specs.declared.instruction.LoadOp.TheVariants.{Ld}
 use Rattle.rv_isa.specs.Results.{reg_result, extended}
 use Rattle.obj_memory.specs.Heap.{block_room}
-use Rattle.flat_meaning.specs.declared.instruction.RightOperand.TheVariants.{Register, Number}
-use Rattle.flat_meaning.specs.declared.instruction.FlatInstruction.{FlatInstruction}
-use Rattle.flat_meaning.specs.declared.instruction.FlatInstruction.TheVariants.{Constant, Move, Operate, Load}
-use Rattle.flat_meaning.specs.Memory.{Bytes, put, load, store}
-use Rattle.flat_meaning.specs.State.{Values, State}
-use Rattle.flat_meaning.specs.Words.{IsOfWords}
-use Rattle.flat_meaning.specs.Meaning.{Context}
-use Rattle.flat_meaning.proofs.Stored.{load_kept, kept_beside}
-use Rattle.flat_routines.specs.Registers.{AreDistinct, AreBelow, AreNoneOf}
-use Rattle.flat_routines.specs.Routine.{HasAt, unless_code, until_code}
-use Rattle.flat_routines.specs.Effects.{worked, effects}
-use Rattle.flat_routines.specs.Metadata.{ShowsNothing, Metadata}
-use Rattle.flat_routines.specs.Renaming.{through}
-use Rattle.flat_routines.proofs.Steps.{has_front, has_back, has_self}
-use Rattle.flat_routines.proofs.Distinct.{AreFrom, AreRegisters, register_of, registers_rename, others_stay}
-use Rattle.flat_routines.proofs.Regions.{IsLaidOut, laid_out}
-use Rattle.flat_routines.proofs.Words.{store_four, IsOfFourWords, same_metadata, stored_at, four_beside}
-use Rattle.flat_routines.proofs.Wrapped.{routine}
-use Rattle.flat_routines.proofs.Branches.{if_not_below, if_below, if_less, if_not_less}
+use Rattle.flat_code.specs.declared.instruction.RightOperand.TheVariants.{Register, Number}
+use Rattle.flat_code.specs.declared.instruction.FlatInstruction.{FlatInstruction}
+use Rattle.flat_code.specs.declared.instruction.FlatInstruction.TheVariants.{Constant, Move, Operate, Load}
+use Rattle.flat_code.specs.Memory.{Bytes, put, load, store}
+use Rattle.flat_code.specs.State.{Values, State}
+use Rattle.flat_code.specs.Words.{IsOfWords}
+use Rattle.flat_code.specs.Meaning.{Context}
+use Rattle.flat_code.proofs.Stored.{load_kept, kept_beside}
+use Rattle.flat_code.specs.Routines.Registers.{AreDistinct, AreBelow, AreNoneOf}
+use Rattle.flat_code.specs.Routines.Routine.{HasAt, unless_code, until_code}
+use Rattle.flat_code.specs.Routines.Effects.{worked, effects}
+use Rattle.flat_code.specs.Routines.Metadata.{ShowsNothing, Metadata}
+use Rattle.flat_code.specs.Routines.Renaming.{through}
+use Rattle.flat_code.proofs.Routines.Steps.{has_front, has_back, has_self}
+use Rattle.flat_code.proofs.Routines.Distinct.{AreFrom, AreRegisters, register_of, registers_rename, others_stay}
+use Rattle.flat_code.proofs.Routines.Regions.{IsLaidOut, laid_out}
+use Rattle.flat_code.proofs.Routines.Words.{store_four, IsOfFourWords, same_metadata, stored_at, four_beside}
+use Rattle.flat_code.proofs.Routines.Wrapped.{routine}
+use Rattle.flat_code.proofs.Routines.Branches.{if_not_below, if_below, if_less, if_not_less}
 use Rattle.shadow_space.proofs.Entries.{context_of, agrees_shows, agrees_memory}
-use Rattle.flat_routines.specs.Spaces.Quiet.{AreQuiet}
-use Rattle.flat_routines.proofs.Spaces.Quiet.{in_spaces, shows_itself, quiet_words, worked_words}
-use Rattle.flat_routines.proofs.Spaces.Rules.{Quietly, ReachesQuietly, quiet_line, quiet_end, quiet_next, quiet_branch}
-use Rattle.flat_routines.proofs.Spaces.Rules.{quiet_weaken, quiet_arrived}
+use Rattle.flat_code.specs.Routines.Spaces.Quiet.{AreQuiet}
+use Rattle.flat_code.proofs.Routines.Spaces.Quiet.{in_spaces, shows_itself, quiet_words, worked_words}
+use Rattle.flat_code.proofs.Routines.Spaces.Rules.{Quietly, ReachesQuietly, quiet_line, quiet_end, quiet_next}
+use Rattle.flat_code.proofs.Routines.Spaces.Rules.{quiet_branch}
+use Rattle.flat_code.proofs.Routines.Spaces.Rules.{quiet_weaken, quiet_arrived}
 use Rattle.heap_space.specs.Rows.{AreInOrder, first_gap}
 use Rattle.heap_space.specs.Table.{total_cell, row_cell, block_total, block_rows, IsTableGood}
 use Rattle.heap_space.specs.Routines.{HasPlaced, HasBlocks, IsPlaceRoutine, round_size}

@@ -7,11 +7,11 @@ use Rattle.std.proofs.lemmas.Bool.{cases_lt, cond-true, cond-false, lt-ltb, le-l
 use Rattle.addr_map.specs.declared.region.Region.TheVariants.{Heap, Blocks}
 use Rattle.addr_map.specs.Places.{MapSizes, region_size, region_start, region_end}
 use Rattle.obj_memory.specs.Heap.{block_room}
-use Rattle.flat_meaning.specs.Memory.{Bytes, load, store}
-use Rattle.flat_meaning.proofs.Stored.{load_stored, store_beside, kept_beside, keeps_within, keeps_both}
-use Rattle.flat_routines.specs.Metadata.{Metadata, metadata_at}
-use Rattle.flat_routines.proofs.Words.{store_four, IsOfFourWords, four_read, four_beside, metadata_kept}
-use Rattle.flat_routines.specs.Objects.StandsFor.{BlockRow}
+use Rattle.flat_code.specs.Memory.{Bytes, load, store}
+use Rattle.flat_code.proofs.Stored.{load_stored, store_beside, kept_beside, keeps_within, keeps_both}
+use Rattle.flat_code.specs.Routines.Metadata.{Metadata, metadata_at}
+use Rattle.flat_code.proofs.Routines.Words.{store_four, IsOfFourWords, four_read, four_beside, metadata_kept}
+use Rattle.flat_code.specs.Routines.Objects.StandsFor.{BlockRow}
 use Rattle.heap_space.specs.Rows.{row_end, AreInOrder, with_row, first_gap}
 use Rattle.heap_space.specs.Table.{total_cell, row_cell, block_total, row_at, rows_from, block_rows, IsTableGood}
 use Rattle.heap_space.specs.Table.{KeepsButTable}

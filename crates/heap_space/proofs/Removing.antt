@@ -9,32 +9,33 @@ use Rattle.rv_isa.specs.declared.instruction.RegOp.TheVariants.{Sub}
 use Rattle.rv_isa.specs.declared.instruction.LoadOp.TheVariants.{Ld}
 use Rattle.rv_isa.specs.declared.instruction.StoreOp.TheVariants.{Sd}
 use Rattle.rv_isa.specs.Results.{reg_result, extended}
-use Rattle.flat_meaning.specs.declared.instruction.RightOperand.TheVariants.{Register, Number}
-use Rattle.flat_meaning.specs.declared.instruction.FlatInstruction.{FlatInstruction}
-use Rattle.flat_meaning.specs.declared.instruction.FlatInstruction.TheVariants.{Constant, Operate, Load, Store}
-use Rattle.flat_meaning.specs.declared.instruction.FlatInstruction.TheVariants.{JumpBack}
-use Rattle.flat_meaning.specs.Memory.{Bytes, AreBytes, put, load, store, KeepsBut}
-use Rattle.flat_meaning.specs.State.{Values, State}
-use Rattle.flat_meaning.specs.Words.{IsOfWords}
-use Rattle.flat_meaning.specs.Meaning.{Context}
-use Rattle.flat_meaning.proofs.Stored.{load_stored, store_beside, load_kept, kept_beside, keeps_within, keeps_both}
-use Rattle.flat_routines.specs.Registers.{AreBelow}
-use Rattle.flat_routines.specs.Routine.{HasAt, until_code}
-use Rattle.flat_routines.specs.Effects.{worked, effects}
-use Rattle.flat_routines.specs.Metadata.{metadata_at, ShowsNothing}
-use Rattle.flat_routines.specs.Renaming.{through}
-use Rattle.flat_routines.proofs.Steps.{has_front, has_back, has_self}
-use Rattle.flat_routines.proofs.Distinct.{AreRegisters, register_of, registers_rename, others_stay}
-use Rattle.flat_routines.proofs.Regions.{IsLaidOut, laid_out}
-use Rattle.flat_routines.proofs.Words.{store_four, four_read, four_beside, metadata_kept}
-use Rattle.flat_routines.proofs.Wrapped.{routine}
-use Rattle.flat_routines.proofs.Branches.{are_equal, are_not_equal}
-use Rattle.flat_routines.specs.Objects.StandsFor.{BlockRow}
+use Rattle.flat_code.specs.declared.instruction.RightOperand.TheVariants.{Register, Number}
+use Rattle.flat_code.specs.declared.instruction.FlatInstruction.{FlatInstruction}
+use Rattle.flat_code.specs.declared.instruction.FlatInstruction.TheVariants.{Constant, Operate, Load, Store}
+use Rattle.flat_code.specs.declared.instruction.FlatInstruction.TheVariants.{JumpBack}
+use Rattle.flat_code.specs.Memory.{Bytes, AreBytes, put, load, store, KeepsBut}
+use Rattle.flat_code.specs.State.{Values, State}
+use Rattle.flat_code.specs.Words.{IsOfWords}
+use Rattle.flat_code.specs.Meaning.{Context}
+use Rattle.flat_code.proofs.Stored.{load_stored, store_beside, load_kept, kept_beside, keeps_within, keeps_both}
+use Rattle.flat_code.specs.Routines.Registers.{AreBelow}
+use Rattle.flat_code.specs.Routines.Routine.{HasAt, until_code}
+use Rattle.flat_code.specs.Routines.Effects.{worked, effects}
+use Rattle.flat_code.specs.Routines.Metadata.{metadata_at, ShowsNothing}
+use Rattle.flat_code.specs.Routines.Renaming.{through}
+use Rattle.flat_code.proofs.Routines.Steps.{has_front, has_back, has_self}
+use Rattle.flat_code.proofs.Routines.Distinct.{AreRegisters, register_of, registers_rename, others_stay}
+use Rattle.flat_code.proofs.Routines.Regions.{IsLaidOut, laid_out}
+use Rattle.flat_code.proofs.Routines.Words.{store_four, four_read, four_beside, metadata_kept}
+use Rattle.flat_code.proofs.Routines.Wrapped.{routine}
+use Rattle.flat_code.proofs.Routines.Branches.{are_equal, are_not_equal}
+use Rattle.flat_code.specs.Routines.Objects.StandsFor.{BlockRow}
 use Rattle.shadow_space.proofs.Entries.{context_of, agrees_shows, agrees_memory}
-use Rattle.flat_routines.specs.Spaces.Quiet.{AreQuiet}
-use Rattle.flat_routines.proofs.Spaces.Quiet.{in_spaces, shows_itself}
-use Rattle.flat_routines.proofs.Spaces.Rules.{Quietly, ReachesQuietly, QuietTurn, quiet_end, quiet_next, quiet_loop}
-use Rattle.flat_routines.proofs.Spaces.Rules.{quiet_weaken}
+use Rattle.flat_code.specs.Routines.Spaces.Quiet.{AreQuiet}
+use Rattle.flat_code.proofs.Routines.Spaces.Quiet.{in_spaces, shows_itself}
+use Rattle.flat_code.proofs.Routines.Spaces.Rules.{Quietly, ReachesQuietly, QuietTurn, quiet_end, quiet_next}
+use Rattle.flat_code.proofs.Routines.Spaces.Rules.{quiet_loop}
+use Rattle.flat_code.proofs.Routines.Spaces.Rules.{quiet_weaken}
 use Rattle.heap_space.specs.Rows.{row_end, AreInOrder, without_row, HasStart}
 use Rattle.heap_space.specs.Table.{total_cell, row_cell, block_total, row_at, rows_from, block_rows, IsTableGood}
 use Rattle.heap_space.specs.Table.{KeepsButTable}

@@ -7,24 +7,24 @@ use Rattle.rv_isa.specs.declared.instruction.BranchOp.TheVariants.{Bgeu}
 use Rattle.rv_isa.specs.declared.instruction.RegOp.TheVariants.{Add}
 use Rattle.rv_isa.specs.declared.instruction.LoadOp.TheVariants.{Ld}
 use Rattle.rv_isa.specs.Results.{reg_result, extended}
-use Rattle.flat_meaning.specs.declared.instruction.RightOperand.TheVariants.{Register, Number}
-use Rattle.flat_meaning.specs.declared.instruction.FlatInstruction.{FlatInstruction}
-use Rattle.flat_meaning.specs.declared.instruction.FlatInstruction.TheVariants.{Move, Operate, Load, JumpBack}
-use Rattle.flat_meaning.specs.Memory.{Bytes, put, load}
-use Rattle.flat_meaning.specs.State.{Values, State}
-use Rattle.flat_meaning.specs.Words.{IsOfWords}
-use Rattle.flat_meaning.specs.Meaning.{Context}
-use Rattle.flat_routines.specs.Routine.{HasAt, until_code}
-use Rattle.flat_routines.specs.Effects.{worked, effects}
-use Rattle.flat_routines.specs.Metadata.{ShowsNothing}
-use Rattle.flat_routines.proofs.Steps.{has_front}
-use Rattle.flat_routines.proofs.Regions.{IsLaidOut}
-use Rattle.flat_routines.proofs.Branches.{not_below, is_below, if_not_below, if_below}
-use Rattle.flat_routines.specs.Objects.StandsFor.{BlockRow}
-use Rattle.flat_routines.proofs.Spaces.Quiet.{in_spaces}
-use Rattle.flat_routines.proofs.Spaces.Rules.{ReachesQuietly, QuietTurn, quiet_line, quiet_end, quiet_branch}
-use Rattle.flat_routines.proofs.Spaces.Rules.{quiet_jump}
-use Rattle.flat_routines.proofs.Spaces.Rules.{quiet_loop, quiet_weaken, quiet_arrived}
+use Rattle.flat_code.specs.declared.instruction.RightOperand.TheVariants.{Register, Number}
+use Rattle.flat_code.specs.declared.instruction.FlatInstruction.{FlatInstruction}
+use Rattle.flat_code.specs.declared.instruction.FlatInstruction.TheVariants.{Move, Operate, Load, JumpBack}
+use Rattle.flat_code.specs.Memory.{Bytes, put, load}
+use Rattle.flat_code.specs.State.{Values, State}
+use Rattle.flat_code.specs.Words.{IsOfWords}
+use Rattle.flat_code.specs.Meaning.{Context}
+use Rattle.flat_code.specs.Routines.Routine.{HasAt, until_code}
+use Rattle.flat_code.specs.Routines.Effects.{worked, effects}
+use Rattle.flat_code.specs.Routines.Metadata.{ShowsNothing}
+use Rattle.flat_code.proofs.Routines.Steps.{has_front}
+use Rattle.flat_code.proofs.Routines.Regions.{IsLaidOut}
+use Rattle.flat_code.proofs.Routines.Branches.{not_below, is_below, if_not_below, if_below}
+use Rattle.flat_code.specs.Routines.Objects.StandsFor.{BlockRow}
+use Rattle.flat_code.proofs.Routines.Spaces.Quiet.{in_spaces}
+use Rattle.flat_code.proofs.Routines.Spaces.Rules.{ReachesQuietly, QuietTurn, quiet_line, quiet_end, quiet_branch}
+use Rattle.flat_code.proofs.Routines.Spaces.Rules.{quiet_jump}
+use Rattle.flat_code.proofs.Routines.Spaces.Rules.{quiet_loop, quiet_weaken, quiet_arrived}
 use Rattle.heap_space.specs.Rows.{row_end, AreInOrder, with_row, first_gap}
 use Rattle.heap_space.specs.Table.{row_cell, block_total, row_at, rows_from, block_rows, IsTableGood}
 use Rattle.heap_space.specs.Routines.{seek_one, place_code}

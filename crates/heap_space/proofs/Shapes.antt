@@ -2,9 +2,9 @@
 use Rattle.std.proofs.Common.{◌≡◌, ℕ, ◌+◌, true, [], ◌∷◌, refl, arith}
 use Rattle.addr_map.specs.declared.region.Region.TheVariants.{Heap, Blocks}
 use Rattle.addr_map.specs.Places.{MapSizes, AreMapped}
-use Rattle.flat_routines.specs.Registers.{AreBelow}
-use Rattle.flat_routines.specs.Shape.{is_short, HasShape}
-use Rattle.flat_routines.proofs.Shape.{shaped, both, short_below, start_short, last_short, shaped_routine}
+use Rattle.flat_code.specs.Routines.Registers.{AreBelow}
+use Rattle.flat_code.specs.Routines.Shape.{is_short, HasShape}
+use Rattle.flat_code.proofs.Routines.Shape.{shaped, both, short_below, start_short, last_short, shaped_routine}
 use Rattle.heap_space.specs.Routines.{find_code, place_code, release_code}
 
 module _ (map : MapSizes) (mapped : AreMapped map) where

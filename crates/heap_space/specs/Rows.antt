@@ -2,7 +2,7 @@
 use Rattle.std.specs.Prelude.{◌≡◌, ℕ, ◌+◌, ◌%◌, ◌≤◌, ◌⊎◌, ◌&&◌, ◌==◌, nat_lt, nat_le, if◌then◌else◌, List, [], ◌∷◌}
 use Rattle.std.specs.Prelude.{length, Option, Some, None}
 use Rattle.obj_memory.specs.Heap.{block_room}
-use Rattle.flat_routines.specs.Objects.StandsFor.{BlockRow}
+use Rattle.flat_code.specs.Routines.Objects.StandsFor.{BlockRow}
 
 -- the first address behind the room of a block
 abbrev pub row_end : BlockRow → ℕ

@@ -2,8 +2,8 @@
 use Rattle.std.specs.Prelude.{◌≡◌, ℕ, zero, suc, ◌+◌, ◌*◌, ◌<◌, ◌≤◌, List, [], ◌∷◌}
 use Rattle.addr_map.specs.declared.region.Region.TheVariants.{Heap, Blocks}
 use Rattle.addr_map.specs.Places.{MapSizes, region_size, region_start, region_end}
-use Rattle.flat_meaning.specs.Memory.{Bytes, load, KeepsBut, Keeps}
-use Rattle.flat_routines.specs.Objects.StandsFor.{BlockRow}
+use Rattle.flat_code.specs.Memory.{Bytes, load, KeepsBut, Keeps}
+use Rattle.flat_code.specs.Routines.Objects.StandsFor.{BlockRow}
 use Rattle.heap_space.specs.Rows.{row_end, AreInOrder}
 
 -- the number of live blocks, and behind it the rows: the start of a block, its size, its key, and where its room ends

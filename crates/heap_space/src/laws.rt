@@ -5,8 +5,8 @@ ghost use Rattle.addr_map.specs.Places.{MapSizes, AreMapped};
 ghost use Rattle.obj_memory.specs.Objects.{Objects};
 ghost use Rattle.obj_memory.specs.Heap.{block_count, least_place};
 ghost use Rattle.obj_memory.specs.Sound.{AreDisjoint};
-ghost use Rattle.flat_meaning.specs.Memory.{Bytes, load};
-ghost use Rattle.flat_routines.specs.Objects.StandsFor.{BlockRow, Keys, IsTable};
+ghost use Rattle.flat_code.specs.Memory.{Bytes, load};
+ghost use Rattle.flat_code.specs.Routines.Objects.StandsFor.{BlockRow, Keys, IsTable};
 ghost use Rattle.heap_space.specs.Rows.{AreInOrder, row_place};
 ghost use Rattle.heap_space.specs.Table.{block_rows, total_cell, IsTableGood, KeepsTable};
 

@@ -23,7 +23,7 @@ use Rattle.check_elim.specs.Available.{IsDroppable}
 use Rattle.check_elim.specs.Dropped.{Dropped}
 use Rattle.check_elim.proofs.Rest.{same_but_checks, closed_bodies, kept_variables}
 use Rattle.compiled_programs.specs.Programs.{is_integer_program}
-use Rattle.flat_meaning.specs.declared.function.FlatProgram.{FlatProgram}
+use Rattle.flat_code.specs.declared.function.FlatProgram.{FlatProgram}
 use Rattle.reg_plan.specs.declared.plan.FunctionPlan.{FunctionPlan}
 use Rattle.metadata_expansion.specs.Numbers.{AreAllSmall}
 use Rattle.reg_plan.specs.Planned.{ArePlannable}

@@ -15,8 +15,8 @@ use Rattle.program_lowering.specs.ProgramCode.Weights.{IsWeighed}
 use Rattle.program_lowering.specs.ProgramCode.Bodies.{HaveBodiesOf}
 use Rattle.program_lowering.specs.ProgramCode.Checks.{checks_of, AwaitsChecks}
 use Rattle.check_insert.specs.Counting.{checks, checks_to_insert}
-use Rattle.flat_meaning.specs.Memory.{Bytes}
-use Rattle.flat_routines.specs.Metadata.{View}
+use Rattle.flat_code.specs.Memory.{Bytes}
+use Rattle.flat_code.specs.Routines.Metadata.{View}
 use Rattle.shadow_space.specs.Form.{EntryCode}
 use Rattle.metadata_relation.specs.StartData.{statics_end}
 use Rattle.image_laws.specs.Images.Images.{sizes_of, IsChecked, DoesWhatIsMeant}

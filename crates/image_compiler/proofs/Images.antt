@@ -7,8 +7,8 @@ use Rattle.std.proofs.lemmas.Option.{same_Some}
 use Rattle.addr_map.specs.Places.{MapSizes, functions_begin, code_begin}
 use Rattle.tac_ir.specs.declared.function.Tac.{Tac}
 use Rattle.metadata_expansion.specs.Numbers.{AreAllSmall}
-use Rattle.flat_meaning.specs.declared.function.FlatFunction.{FlatFunction}
-use Rattle.flat_meaning.specs.declared.function.FlatProgram.{FlatProgram}
+use Rattle.flat_code.specs.declared.function.FlatFunction.{FlatFunction}
+use Rattle.flat_code.specs.declared.function.FlatProgram.{FlatProgram}
 use Rattle.reg_plan.specs.declared.plan.FunctionPlan.{FunctionPlan}
 use Rattle.reg_plan.specs.Accepted.{IsAccepted}
 use Rattle.reg_plan.specs.Planned.{ArePlannable}

@@ -9,7 +9,7 @@ use Rattle.check_insert.specs.Inserted.{Inserted}
 use Rattle.check_elim.specs.Available.{IsDroppable}
 use Rattle.check_elim.specs.Dropped.{Dropped}
 use Rattle.metadata_expansion.specs.Numbers.{AreAllSmall}
-use Rattle.flat_meaning.specs.declared.function.FlatProgram.{FlatProgram}
+use Rattle.flat_code.specs.declared.function.FlatProgram.{FlatProgram}
 use Rattle.reg_plan.specs.declared.plan.FunctionPlan.{FunctionPlan}
 use Rattle.reg_plan.specs.Planned.{ArePlannable, ArePlanned, IsPlanOfRegisters}
 use Rattle.machine_laws.specs.Following.Code.{IsEncodable}

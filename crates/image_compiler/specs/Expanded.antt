@@ -7,9 +7,9 @@ use Rattle.obj_memory.specs.Sound.{IsSound}
 use Rattle.tac_ir.specs.declared.function.Tac.{Tac}
 use Rattle.tac_ir.specs.Meaning.{placed_data}
 use Rattle.check_insert.specs.Counting.{checks}
-use Rattle.flat_meaning.specs.declared.function.FlatProgram.{FlatProgram}
-use Rattle.flat_meaning.specs.Memory.{Bytes}
-use Rattle.flat_routines.specs.Metadata.{View}
+use Rattle.flat_code.specs.declared.function.FlatProgram.{FlatProgram}
+use Rattle.flat_code.specs.Memory.{Bytes}
+use Rattle.flat_code.specs.Routines.Metadata.{View}
 use Rattle.shadow_space.specs.Form.{EntryCode}
 use Rattle.shadow_space.specs.Start.{StartsShadow}
 use Rattle.metadata_relation.specs.FunctionTypes.{HaveTypeKeys}

@@ -66,10 +66,10 @@ fn built_of<S: ShadowForm>(
 }
 
 /// What is built of a valid program by the expansion of its checked code under a form of the shadow space, with some
-/// budgets: its initializers are constant, its static objects take at most 4 MiB, and it has at most 4096 functions. The
-/// image does what the program means, with at most 1008 instructions for each unit of its work; its checks are those of
-/// the text, of more than 2^64 - 1 so many, and of these just the available ones are dropped, as many as are told. An
-/// error may come of any program: nothing is promised yet of which programs pass the tests.
+/// budgets: its initializers are constant, its static objects take at most 4 MiB, and it has at most 4096 functions.
+/// The image does what the program means, with at most 1008 instructions for each unit of its work; its checks are
+/// those of the text, of more than 2^64 - 1 so many, and of these just the available ones are dropped, as many as are
+/// told. An error may come of any program: nothing is promised yet of which programs pass the tests.
 pub fn compile_expanded<S: ShadowForm>(
     alloc: Global,
     budgets: &Budgets,

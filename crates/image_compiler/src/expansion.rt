@@ -10,7 +10,7 @@ ghost use Rattle.image_compiler.specs.declared.expansion.ExpansionError.TheVaria
 
 use addr_map::laws::{regions_stand_in_order, sizes_are_in_range};
 use addr_map::{AddrMap, Region};
-use flat_meaning::FlatProgram;
+use flat_code::FlatProgram;
 use flat_propagation::propagate;
 use instruction_selection::covered::covers_all;
 use instruction_selection::start_data::{static_bytes, static_entries};

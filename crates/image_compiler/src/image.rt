@@ -10,7 +10,7 @@ ghost use Rattle.image_compiler.specs.Built.{IsCompiled};
 
 use crate::error::CompileError;
 use addr_map::AddrMap;
-use flat_meaning::FlatProgram;
+use flat_code::FlatProgram;
 use flat_propagation::propagate;
 use image_laws::laws::images::runtimes_have_room;
 use metadata_expansion::{expand, fits};

@@ -13,8 +13,8 @@ use Rattle.c_tree.specs.Blocks.{closed, is_among, no_variable, opened}
 use Rattle.source_meaning.specs.Blocks.{has_objects}
 use Rattle.tac_ir.specs.declared.function.CodeFunction.{CodeFunction}
 use Rattle.tac_ir.specs.Meaning.{if_there, objects_in}
-use Rattle.flat_routines.specs.declared.registers.Entry.{Entry}
-use Rattle.flat_routines.specs.Registers.{AreBelow}
+use Rattle.flat_code.specs.declared.registers.Entry.{Entry}
+use Rattle.flat_code.specs.Routines.Registers.{AreBelow}
 use Rattle.metadata_plan.specs.Registers.{all_variables}
 use Rattle.metadata_relation.specs.Registers.{before, entry_from, first_free, first_object, home_register, home_words}
 use Rattle.metadata_relation.specs.Registers.{total}

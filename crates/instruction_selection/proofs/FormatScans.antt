@@ -8,7 +8,7 @@ use Rattle.c_tree.specs.declared.format.Piece.{Piece}
 use Rattle.c_tree.specs.declared.format.Piece.TheVariants as piece
 use Rattle.c_tree.specs.Format.{directives}
 use Rattle.tac_ir.specs.declared.function.CodeFunction.{CodeFunction}
-use Rattle.flat_meaning.specs.declared.instruction.FlatInstruction.{FlatInstruction}
+use Rattle.flat_code.specs.declared.instruction.FlatInstruction.{FlatInstruction}
 use Rattle.metadata_relation.specs.Printing.{scan_argument, scan_pieces}
 use Rattle.instruction_selection.proofs.Lists.{nothing_behind}
 

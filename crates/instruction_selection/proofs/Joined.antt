@@ -1,5 +1,6 @@
 -- Lists that are put one behind the other, each by a function of its own.
-use Rattle.std.proofs.Common.{◌≡◌, ℕ, suc, ◌+◌, ◌*◌, ◌<◌, map, List, [], ◌∷◌, ◌++◌, Bool, length, drop, Some, if◌then◌else◌}
+use Rattle.std.proofs.Common.{◌≡◌, ℕ, suc, ◌+◌, ◌*◌, ◌<◌, map, List, [], ◌∷◌, ◌++◌, Bool, length, drop, Some}
+use Rattle.std.proofs.Common.{if◌then◌else◌}
 use Rattle.std.proofs.Common.{sym, ap, ◌∙◌, arith, append_assoc}
 use Rattle.std.specs.Prelude.{slice_get}
 use Rattle.std.proofs.lemmas.List.{drop_more}
@@ -16,10 +17,10 @@ use Rattle.c_tree.specs.declared.expression.Fixity.{Fixity}
 use Rattle.c_tree.specs.declared.program.Variable.{Variable}
 use Rattle.tac_ir.specs.declared.instruction.RightOperand.{RightOperand}
 use Rattle.tac_ir.specs.declared.function.CodeFunction.{CodeFunction}
-use Rattle.flat_meaning.specs.declared.instruction.RightOperand.TheVariants.{Register}
-use Rattle.flat_meaning.specs.declared.instruction.FlatInstruction.{FlatInstruction}
-use Rattle.flat_meaning.specs.declared.instruction.FlatInstruction.TheVariants.{Constant, Move, Branch, CallAddress, End}
-use Rattle.flat_routines.specs.declared.registers.Entry.{Entry}
+use Rattle.flat_code.specs.declared.instruction.RightOperand.TheVariants.{Register}
+use Rattle.flat_code.specs.declared.instruction.FlatInstruction.{FlatInstruction}
+use Rattle.flat_code.specs.declared.instruction.FlatInstruction.TheVariants.{Constant, Move, Branch, CallAddress, End}
+use Rattle.flat_code.specs.declared.registers.Entry.{Entry}
 use Rattle.shadow_space.specs.Form.{EntryCode}
 use Rattle.lib_wrappers.specs.declared.accesses.held.HeldScalar.TheVariants.{Pointer as HeldPointer}
 use Rattle.lib_wrappers.specs.AccessRoutines.Accessing.{load_code, store_code}

@@ -1,10 +1,10 @@
 -- Registers of pointers below those that are free.
 use Rattle.std.proofs.Common.{◌≡◌, ◌≢◌, ℕ, ◌+◌, ◌<◌, ◌≤◌, ◌∷◌, Bool, true, false, if◌then◌else◌, subst, sym, arith}
-use Rattle.flat_meaning.specs.declared.instruction.RightOperand.{RightOperand}
-use Rattle.flat_meaning.specs.declared.instruction.RightOperand.TheVariants.{Register, Number}
-use Rattle.flat_routines.specs.declared.registers.Held.{Held}
-use Rattle.flat_routines.specs.Registers.{AreBelow, AreDistinct}
-use Rattle.flat_routines.specs.Metadata.{held_registers}
+use Rattle.flat_code.specs.declared.instruction.RightOperand.{RightOperand}
+use Rattle.flat_code.specs.declared.instruction.RightOperand.TheVariants.{Register, Number}
+use Rattle.flat_code.specs.declared.registers.Held.{Held}
+use Rattle.flat_code.specs.Routines.Registers.{AreBelow, AreDistinct}
+use Rattle.flat_code.specs.Routines.Metadata.{held_registers}
 use Rattle.flat_actions.specs.Judgement.Testing.{IsBelow}
 use Rattle.flat_actions.specs.Narrowing.{CanNarrow, IsOther}
 use Rattle.runtime_functions.specs.Library.{held_from}

@@ -5,9 +5,9 @@ use Rattle.c_tree.specs.declared.expression.Kind.TheVariants.{Scalar as OfScalar
 use Rattle.tac_ir.specs.declared.instruction.Instruction.{Instruction}
 use Rattle.tac_ir.specs.declared.instruction.Instruction.TheVariants as tac
 use Rattle.shadow_space.specs.Form.{EntryCode}
-use Rattle.flat_meaning.specs.declared.instruction.FlatInstruction.{FlatInstruction}
+use Rattle.flat_code.specs.declared.instruction.FlatInstruction.{FlatInstruction}
 use Rattle.sb_base.specs.declared.ending.Ending.TheVariants.{Abort}
-use Rattle.flat_meaning.specs.declared.instruction.FlatInstruction.TheVariants.{Constant, End}
+use Rattle.flat_code.specs.declared.instruction.FlatInstruction.TheVariants.{Constant, End}
 use Rattle.tac_ir.specs.declared.function.CodeFunction.{CodeFunction}
 use Rattle.tac_ir.specs.declared.function.Tac.{Tac}
 use Rattle.metadata_plan.specs.Entries.{Entries}

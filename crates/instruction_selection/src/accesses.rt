@@ -3,7 +3,7 @@
 ghost use Rattle.std.specs.Prelude.{◌≡◌, ◌+◌, ◌<◌, ◌≤◌, ◌^◌, ◌++◌, ◌∷◌, OnOk};
 ghost use Rattle.std.specs.Prelude.{true};
 ghost use Rattle.obj_memory.specs.declared.value.Scalar.TheVariants.{Pointer};
-ghost use Rattle.flat_routines.specs.Registers.{AreBelow};
+ghost use Rattle.flat_code.specs.Routines.Registers.{AreBelow};
 ghost use Rattle.flat_actions.specs.Actions.{registers_of};
 ghost use Rattle.lib_wrappers.specs.AccessRoutines.Holding.{holder_in, IsApartFrom};
 ghost use Rattle.lib_wrappers.specs.AccessRoutines.Accessing.{load_code as load_list, store_code as store_list};
@@ -15,7 +15,7 @@ use crate::entries::{held_from, put_untagged, put_value};
 use crate::list::{append, put};
 use addr_map::laws::sizes_are_in_range;
 use c_tree::Kind;
-use flat_meaning::FlatInstruction;
+use flat_code::FlatInstruction;
 use lib_wrappers::accesses::{HeldScalar, load, store};
 use obj_memory::{IntType, Scalar};
 use shadow_space::ShadowForm;

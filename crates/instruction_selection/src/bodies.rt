@@ -2,7 +2,7 @@
 
 ghost use Rattle.std.specs.Prelude.{◌≡◌, ◌+◌, ◌<◌, ◌≤◌, ◌^◌, ◌++◌, ◌∷◌, [], Bool, OnOk, length, true, Some, slice_get};
 ghost use Rattle.std.specs.Prelude.{if◌then◌else◌};
-ghost use Rattle.flat_meaning.specs.declared.instruction.FlatInstruction.TheVariants.{Return};
+ghost use Rattle.flat_code.specs.declared.instruction.FlatInstruction.TheVariants.{Return};
 ghost use Rattle.metadata_plan.specs.Registers.{most_temporaries};
 ghost use Rattle.metadata_plan.specs.OperatorLists.Operators.{operators};
 ghost use Rattle.metadata_relation.specs.InlineLists.{inline_lists};
@@ -20,7 +20,7 @@ use crate::calls::body_objects;
 use crate::context::FunctionContext;
 use crate::list::put;
 use c_tree::{Kind, Variable};
-use flat_meaning::FlatInstruction;
+use flat_code::FlatInstruction;
 use sb_base::{Ending, Line};
 use shadow_space::ShadowForm;
 use std::alloc::AllocError;
@@ -141,8 +141,8 @@ pub fn put_prologue<S: ShadowForm>(
     put_store_parameters::<S>(code, context)
 }
 
-/// Puts a return behind a list, of the value in a register: the objects of the body die before. It fails only for want of
-/// memory.
+/// Puts a return behind a list, of the value in a register: the objects of the body die before. It fails only for want
+/// of memory.
 pub fn put_return<S: ShadowForm>(
     code: &mut Vec<FlatInstruction>,
     context: &FunctionContext,

@@ -23,7 +23,7 @@ use crate::handing::{handed_to, put_pack};
 use crate::list::put;
 use crate::registers::argument_words;
 use c_tree::{Kind, Variable};
-use flat_meaning::FlatInstruction;
+use flat_code::FlatInstruction;
 use obj_memory::Scalar;
 use sb_base::{Ending, Line};
 use std::alloc::{AllocError, Global};

@@ -1,6 +1,7 @@
 //! Checks of pointers (C99 6.5.3.2): by their entries, and of named objects by the places of these.
 
-ghost use Rattle.std.specs.Prelude.{◌≡◌, ℕ, ◌+◌, ◌-◌, ◌<◌, ◌≤◌, ◌^◌, ◌++◌, ◌∷◌, [], Bool, OnOk, Some, None, slice_get, max, min};
+ghost use Rattle.std.specs.Prelude.{◌≡◌, ℕ, ◌+◌, ◌-◌, ◌<◌, ◌≤◌, ◌^◌, ◌++◌, ◌∷◌, [], Bool, OnOk, Some, None, slice_get};
+ghost use Rattle.std.specs.Prelude.{max, min};
 ghost use Rattle.std.specs.Prelude.{length, MatchOption};
 ghost use Rattle.std.specs.List.{list_all};
 ghost use Rattle.shadow_space.specs.Form.{EntryCode};
@@ -12,7 +13,7 @@ ghost use Rattle.metadata_relation.specs.Blocks.{number_code, number_operand, pa
 ghost use Rattle.rv_isa.specs.declared.instruction.BranchOp.TheVariants.{Bltu};
 ghost use Rattle.sb_base.specs.declared.ending.Ending.TheVariants.{Spatial};
 ghost use Rattle.tac_ir.specs.declared.instruction.Test.TheVariants.{Spatial as SpatialTest};
-ghost use Rattle.flat_meaning.specs.declared.instruction.FlatInstruction.TheVariants.{Branch as Choice, End};
+ghost use Rattle.flat_code.specs.declared.instruction.FlatInstruction.TheVariants.{Branch as Choice, End};
 ghost use Rattle.instruction_selection.specs.Contexts.{IsPrepared};
 ghost use Rattle.instruction_selection.specs.Selected.{expansion_of};
 
@@ -24,7 +25,7 @@ use crate::pointers::put_member_address;
 use crate::statics::static_place;
 use crate::variables::kind_of;
 use flat_actions::{spatial_check, temporal_check};
-use flat_meaning::{FlatInstruction, RightOperand};
+use flat_code::{FlatInstruction, RightOperand};
 use flat_operators::constant::put_constant;
 use rv_isa::{BranchOp, RegOp};
 use sb_base::{Ending, Line};

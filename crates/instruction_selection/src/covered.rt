@@ -1,4 +1,5 @@
-//! Whether a program is covered: whether the code of each of its instructions is known to do what the instruction means.
+//! Whether a program is covered: whether the code of each of its instructions is known to do what the instruction
+//! means.
 
 ghost use Rattle.std.specs.Prelude.{◌≡◌, ◌<◌, ◌^◌, true, false, length, IfOk};
 ghost use Rattle.std.specs.List.{list_all};

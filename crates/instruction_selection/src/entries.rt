@@ -1,15 +1,14 @@
 //! Values with their entries, as they go from some registers to others.
 
 ghost use Rattle.std.specs.Prelude.{◌≡◌, ◌+◌, ◌<◌, ◌≤◌, ◌^◌, ◌++◌, true, OnOk};
-ghost use Rattle.flat_routines.specs.Registers.{AreBelow};
+ghost use Rattle.flat_code.specs.Routines.Registers.{AreBelow};
 ghost use Rattle.runtime_functions.specs.Library.{held_from};
 ghost use Rattle.lib_wrappers.specs.AccessRoutines.Accessing.{no_entry};
 ghost use Rattle.metadata_relation.specs.Registers.{entry_from};
 ghost use Rattle.metadata_relation.specs.Blocks.{move_entry, move_entry_if, move_value, untagged};
 
 use crate::list::put;
-use flat_meaning::FlatInstruction;
-use flat_routines::{Entry, Held};
+use flat_code::{Entry, FlatInstruction, Held};
 use std::alloc::AllocError;
 
 /// The registers of a value with its entry from one on.

@@ -12,7 +12,7 @@ use crate::context::FunctionContext;
 use crate::entries::{put_untagged, put_value};
 use crate::list::put;
 use c_tree::{Kind, Variable};
-use flat_meaning::FlatInstruction;
+use flat_code::FlatInstruction;
 use obj_memory::Scalar;
 use runtime_functions::LibraryFunction;
 use std::alloc::{AllocError, Global};

@@ -2,7 +2,7 @@
 
 ghost use Rattle.std.specs.Prelude.{◌≡◌, ◌+◌, ◌<◌, ◌≤◌, ◌++◌, ◌∷◌, [], OnOk};
 ghost use Rattle.sb_base.specs.declared.ending.Ending.TheVariants.{Abort};
-ghost use Rattle.flat_meaning.specs.declared.instruction.FlatInstruction.TheVariants.{End};
+ghost use Rattle.flat_code.specs.declared.instruction.FlatInstruction.TheVariants.{End};
 ghost use Rattle.metadata_relation.specs.InlineLists.{inline_lists};
 ghost use Rattle.tac_ir.specs.Meaning.{text_in};
 ghost use Rattle.metadata_relation.specs.Blocks.{part_address, held_scalar, store_bytes, runtime_number};
@@ -19,7 +19,7 @@ use crate::list::put;
 use crate::pointers::put_member_address;
 use crate::structures::put_copy;
 use c_tree::Kind;
-use flat_meaning::{FlatInstruction, RightOperand};
+use flat_code::{FlatInstruction, RightOperand};
 use obj_memory::Scalar;
 use rv_isa::{RegOp, StoreOp};
 use sb_base::{Ending, Line};
@@ -147,8 +147,8 @@ pub fn text_of(program: &Tac, number: usize) -> &[u8]
     }
 }
 
-/// Puts what stores the bytes of a text in the object of a variable, so many bytes from its beginning, behind a list. It
-/// fails only for want of memory.
+/// Puts what stores the bytes of a text in the object of a variable, so many bytes from its beginning, behind a list.
+/// It fails only for want of memory.
 pub fn put_text(
     code: &mut Vec<FlatInstruction>,
     context: &FunctionContext,

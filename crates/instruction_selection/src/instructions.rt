@@ -1,7 +1,7 @@
 //! The flat code of each instruction.
 
 ghost use Rattle.std.specs.Prelude.{◌≡◌, ◌+◌, ◌<◌, ◌≤◌, ◌^◌, ◌++◌, ◌∷◌, [], true, OnOk};
-ghost use Rattle.flat_meaning.specs.declared.instruction.FlatInstruction.TheVariants.{End};
+ghost use Rattle.flat_code.specs.declared.instruction.FlatInstruction.TheVariants.{End};
 ghost use Rattle.sb_base.specs.declared.ending.Ending.TheVariants.{Abort};
 ghost use Rattle.instruction_selection.specs.Contexts.{IsPrepared};
 ghost use Rattle.instruction_selection.specs.Registers.{IsAmong};
@@ -17,7 +17,7 @@ use crate::selection::derived::put_derived;
 use crate::selection::names::put_name_pointer;
 use crate::selection::objects::put_of_objects;
 use crate::selection::plain::put_plain;
-use flat_meaning::FlatInstruction;
+use flat_code::FlatInstruction;
 use sb_base::{Ending, Line};
 use shadow_space::ShadowForm;
 use std::alloc::AllocError;
@@ -30,8 +30,8 @@ fn put_abort(code: &mut Vec<FlatInstruction>) -> Result<(), AllocError>
     put(code, FlatInstruction::End(Ending::Abort(Line::first())))
 }
 
-/// Puts the flat code of an instruction behind a list. `with_entry` says whether the temporary that it gives has an entry
-/// behind it. It fails only for want of memory.
+/// Puts the flat code of an instruction behind a list. `with_entry` says whether the temporary that it gives has an
+/// entry behind it. It fails only for want of memory.
 pub fn put_instruction<S: ShadowForm>(
     code: &mut Vec<FlatInstruction>,
     context: &FunctionContext,

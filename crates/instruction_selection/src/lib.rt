@@ -1,5 +1,5 @@
-//! The flat code of each instruction of checked three-address code, for programs with objects and pointers, by a form of
-//! the shadow space. `metadata_relation` says what the list of each instruction is; here it is put behind a list.
+//! The flat code of each instruction of checked three-address code, for programs with objects and pointers, by a form
+//! of the shadow space. `metadata_relation` says what the list of each instruction is; here it is put behind a list.
 #![tactic(auto)]
 
 pub mod accesses;

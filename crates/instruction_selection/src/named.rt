@@ -13,9 +13,8 @@ use crate::context::FunctionContext;
 use crate::entries::{entry_from, held_from, put_entry_if};
 use crate::list::put;
 use addr_map::function_address;
-use flat_meaning::FlatInstruction;
+use flat_code::{Entry, FlatInstruction};
 use flat_operators::constant::put_constant;
-use flat_routines::Entry;
 use std::alloc::AllocError;
 
 /// The numbers of an entry.

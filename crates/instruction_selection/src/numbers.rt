@@ -4,7 +4,7 @@ ghost use Rattle.std.specs.Prelude.{◌≡◌, ◌++◌, OnOk};
 ghost use Rattle.metadata_plan.specs.OperatorLists.Operators.{operators};
 ghost use Rattle.metadata_relation.specs.Blocks.{is_short, number_code, number_operand};
 
-use flat_meaning::{FlatInstruction, RightOperand};
+use flat_code::{FlatInstruction, RightOperand};
 use flat_operators::constant::put_constant;
 use std::alloc::AllocError;
 

@@ -5,7 +5,7 @@ ghost use Rattle.obj_memory.specs.declared.value.Scalar.TheVariants.{Integer, Po
 ghost use Rattle.tac_ir.specs.Temporaries.{right_count};
 ghost use Rattle.metadata_plan.specs.Registers.{most_temporaries};
 ghost use Rattle.metadata_relation.specs.InlineLists.{inline_lists};
-ghost use Rattle.flat_meaning.specs.declared.instruction.FlatInstruction.TheVariants.{Move};
+ghost use Rattle.flat_code.specs.declared.instruction.FlatInstruction.TheVariants.{Move};
 ghost use Rattle.metadata_relation.specs.Blocks.{given_register, update_code};
 ghost use Rattle.lib_wrappers.specs.AccessRoutines.Accessing.{load_code as load_list, store_code as store_list};
 ghost use Rattle.lib_wrappers.specs.declared.accesses.held.HeldScalar.TheVariants.{Integer as HeldInteger};
@@ -19,8 +19,7 @@ use crate::entries::{held_from, put_entry_if, put_untagged};
 use crate::list::put;
 use crate::updates::{Change, given_register, put_address, put_integer};
 use c_tree::{Fixity, Update};
-use flat_meaning::FlatInstruction;
-use flat_routines::Held;
+use flat_code::{FlatInstruction, Held};
 use lib_wrappers::accesses::HeldScalar;
 use obj_memory::{IntType, Scalar};
 use sb_base::Line;

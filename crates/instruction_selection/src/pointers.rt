@@ -2,7 +2,7 @@
 
 ghost use Rattle.std.specs.Prelude.{◌≡◌, ◌+◌, ◌<◌, ◌≤◌, ◌^◌, ◌++◌, ◌∷◌, [], false, true, OnOk};
 ghost use Rattle.rv_isa.specs.declared.instruction.RegOp.TheVariants.{Add as add_op};
-ghost use Rattle.flat_meaning.specs.declared.instruction.FlatInstruction.TheVariants.{Operate as Operation};
+ghost use Rattle.flat_code.specs.declared.instruction.FlatInstruction.TheVariants.{Operate as Operation};
 ghost use Rattle.shadow_space.specs.Form.{EntryCode};
 ghost use Rattle.addr_map.specs.Places.{MapSizes};
 ghost use Rattle.metadata_plan.specs.OperatorLists.Operators.{operators};
@@ -14,7 +14,7 @@ use crate::list::{append, put};
 use crate::numbers::{number_operand, put_number};
 use c_tree::OffsetForm;
 use flat_actions::narrow;
-use flat_meaning::FlatInstruction;
+use flat_code::FlatInstruction;
 use flat_operators::binary::Registers;
 use flat_operators::pointers::{put_back, put_forward};
 use rv_isa::RegOp;

@@ -2,9 +2,9 @@
 
 ghost use Rattle.std.specs.Prelude.{◌≡◌, ◌+◌, ◌*◌, ◌<◌, ◌≤◌, ◌^◌, ◌++◌, ◌∷◌, [], length, IfOk, OnOk, Some, slice_get};
 ghost use Rattle.c_tree.specs.declared.format.Directive.TheVariants.{String as StringDirective};
-ghost use Rattle.flat_meaning.specs.declared.instruction.RightOperand.TheVariants.{Register as InRegister};
-ghost use Rattle.flat_meaning.specs.declared.instruction.FlatInstruction.TheVariants.{Call as Invoke};
-ghost use Rattle.flat_meaning.specs.declared.instruction.FlatInstruction.TheVariants.{Operate as Operation};
+ghost use Rattle.flat_code.specs.declared.instruction.RightOperand.TheVariants.{Register as InRegister};
+ghost use Rattle.flat_code.specs.declared.instruction.FlatInstruction.TheVariants.{Call as Invoke};
+ghost use Rattle.flat_code.specs.declared.instruction.FlatInstruction.TheVariants.{Operate as Operation};
 ghost use Rattle.c_tree.specs.Format.{directives, pieces};
 ghost use Rattle.source_meaning.specs.Printing.{pieces_or_none};
 ghost use Rattle.tac_ir.specs.Meaning.{text_in};
@@ -23,7 +23,7 @@ use crate::initializers::text_of;
 use crate::list::put;
 use crate::runtime_calls::{put_status, runtime_number};
 use c_tree::format::{Directive, Piece};
-use flat_meaning::{FlatInstruction, RightOperand};
+use flat_code::{FlatInstruction, RightOperand};
 use runtime_functions::ReturnStatus;
 use rv_isa::{RegOp, RegOp32};
 use sb_base::Line;

@@ -15,7 +15,7 @@ use crate::entries::put_untagged;
 use crate::handing::{gives, put_pack, put_unpack, takes};
 use crate::list::{append, put};
 use c_tree::Routine;
-use flat_meaning::{FlatInstruction, RightOperand};
+use flat_code::{FlatInstruction, RightOperand};
 use flat_operators::conversion::put_conversion;
 use obj_memory::IntType;
 use runtime_functions::{LibraryFunction, ReturnStatus};

@@ -1,4 +1,5 @@
-//! The data with which an image begins: the bytes of the static objects, and the entries of the pointers that they hold.
+//! The data with which an image begins: the bytes of the static objects, and the entries of the pointers that they
+//! hold.
 
 ghost use Rattle.std.specs.Prelude.{◌≡◌, ℕ, ◌+◌, ◌*◌, ◌<◌, ◌≤◌, ◌^◌, ◌++◌, ◌∷◌, [], OnOk, IfOk, length, replicate};
 ghost use Rattle.addr_map.specs.Places.{objects_begin};

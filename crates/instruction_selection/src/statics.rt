@@ -13,7 +13,7 @@ use crate::context::FunctionContext;
 use crate::entries::held_from;
 use crate::named::{EntryNumbers, put_numbers_if};
 use addr_map::{AddrMap, Region};
-use flat_meaning::FlatInstruction;
+use flat_code::FlatInstruction;
 use flat_operators::constant::put_constant;
 use static_data::pointers::rounded;
 use std::alloc::{AllocError, Global};

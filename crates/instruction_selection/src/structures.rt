@@ -11,7 +11,7 @@ use crate::context::FunctionContext;
 use crate::entries::put_value;
 use crate::list::put;
 use crate::runtime_calls::{COPY_PLACE, runtime_number};
-use flat_meaning::FlatInstruction;
+use flat_code::FlatInstruction;
 use flat_operators::constant::put_constant;
 use std::alloc::AllocError;
 

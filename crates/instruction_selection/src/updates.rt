@@ -1,7 +1,7 @@
 //! New values of scalars that are updated (C99 6.5.16.2, 6.5.3.1, 6.5.2.4), and updates of plain variables.
 
 ghost use Rattle.std.specs.Prelude.{◌≡◌, ◌+◌, ◌<◌, ◌≤◌, ◌^◌, ◌++◌, ◌∷◌, [], OnOk};
-ghost use Rattle.flat_meaning.specs.declared.instruction.FlatInstruction.TheVariants.{Move};
+ghost use Rattle.flat_code.specs.declared.instruction.FlatInstruction.TheVariants.{Move};
 ghost use Rattle.shadow_space.specs.Form.{EntryCode};
 ghost use Rattle.addr_map.specs.Places.{MapSizes};
 ghost use Rattle.tac_ir.specs.Temporaries.{right_count};
@@ -17,7 +17,7 @@ use crate::context::FunctionContext;
 use crate::entries::{held_from, put_entry_if, put_untagged};
 use crate::list::put;
 use c_tree::{Fixity, Update};
-use flat_meaning::FlatInstruction;
+use flat_code::FlatInstruction;
 use flat_operators::binary::{Registers, put_binary};
 use flat_operators::conversion::put_conversion;
 use flat_operators::pointers::{put_back, put_forward};
@@ -121,8 +121,8 @@ fn put_arithmetic(
     put_conversion(code, int_type, new, new)
 }
 
-/// Puts the new value of an integer behind a list, as its type has it: one by an operator on integers. It fails only for
-/// want of memory.
+/// Puts the new value of an integer behind a list, as its type has it: one by an operator on integers. It fails only
+/// for want of memory.
 pub fn put_integer(
     code: &mut Vec<FlatInstruction>,
     context: &FunctionContext,

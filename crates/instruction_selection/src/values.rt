@@ -9,7 +9,7 @@ ghost use Rattle.metadata_relation.specs.Blocks.{conversion, get_code, set_code}
 use crate::entries::{put_untagged, put_value};
 use crate::list::put;
 use c_tree::Kind;
-use flat_meaning::FlatInstruction;
+use flat_code::FlatInstruction;
 use flat_operators::conversion::put_conversion;
 use obj_memory::Scalar;
 use std::alloc::AllocError;

@@ -3,14 +3,14 @@ use Rattle.std.proofs.Common.{◌≡◌, ℕ, ◌+◌, List, [], ◌∷◌, ◌+
 use Rattle.std.proofs.Common.{subst}
 use Rattle.rv_isa.specs.declared.instruction.BranchOp.{BranchOp}
 use Rattle.rv_isa.specs.declared.instruction.BranchOp.TheVariants.{Beq}
-use Rattle.flat_meaning.specs.declared.instruction.RightOperand.{RightOperand}
-use Rattle.flat_meaning.specs.declared.instruction.RightOperand.TheVariants.{Number}
-use Rattle.flat_meaning.specs.declared.instruction.FlatInstruction.{FlatInstruction}
-use Rattle.flat_meaning.specs.declared.instruction.FlatInstruction.TheVariants.{JumpBack}
-use Rattle.flat_routines.specs.declared.registers.Held.{Held}
-use Rattle.flat_routines.specs.InputOutput.{does_input_output, has_input_output, IsWithoutInputOutput}
-use Rattle.flat_routines.specs.Routine.{until_code}
-use Rattle.flat_routines.proofs.InputOutput.{computes}
+use Rattle.flat_code.specs.declared.instruction.RightOperand.{RightOperand}
+use Rattle.flat_code.specs.declared.instruction.RightOperand.TheVariants.{Number}
+use Rattle.flat_code.specs.declared.instruction.FlatInstruction.{FlatInstruction}
+use Rattle.flat_code.specs.declared.instruction.FlatInstruction.TheVariants.{JumpBack}
+use Rattle.flat_code.specs.declared.registers.Held.{Held}
+use Rattle.flat_code.specs.Routines.InputOutput.{does_input_output, has_input_output, IsWithoutInputOutput}
+use Rattle.flat_code.specs.Routines.Routine.{until_code}
+use Rattle.flat_code.proofs.Routines.InputOutput.{computes}
 use Rattle.lib_wrappers.specs.MovingRoutines.Copying.{bump}
 use Rattle.lib_wrappers.specs.MovingRoutines.Tagged.{move_words}
 use Rattle.lib_wrappers.specs.AreaRoutines.Loops.{stride, word_loop, entry_behind, load_entry, store_entry}

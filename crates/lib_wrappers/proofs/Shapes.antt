@@ -3,16 +3,16 @@ use Rattle.std.proofs.Common.{◌≡◌, ℕ, ◌+◌, ◌≤◌, ◌<◌, List,
 use Rattle.rv_isa.specs.declared.instruction.BranchOp.TheVariants.{Beq}
 use Rattle.c_tree.specs.declared.format.Directive.{Directive}
 use Rattle.c_tree.specs.declared.format.Directive.TheVariants as directive
-use Rattle.flat_meaning.specs.declared.instruction.RightOperand.TheVariants.{Number}
-use Rattle.flat_meaning.specs.declared.instruction.FlatInstruction.{FlatInstruction}
-use Rattle.flat_meaning.specs.declared.instruction.FlatInstruction.TheVariants.{Constant}
-use Rattle.flat_routines.specs.declared.registers.Held.{Held}
-use Rattle.flat_routines.specs.Registers.{AreBelow}
-use Rattle.flat_routines.specs.Metadata.{held_registers}
-use Rattle.flat_routines.specs.Shape.{HasShape}
-use Rattle.flat_routines.proofs.Distinct.{below_more}
-use Rattle.flat_routines.proofs.Shape.{piece, piece_behind, below_both, shaped_append, shaped_joined, same_shape}
-use Rattle.flat_routines.proofs.Shape.{shaped_until, up_to, at_most}
+use Rattle.flat_code.specs.declared.instruction.RightOperand.TheVariants.{Number}
+use Rattle.flat_code.specs.declared.instruction.FlatInstruction.{FlatInstruction}
+use Rattle.flat_code.specs.declared.instruction.FlatInstruction.TheVariants.{Constant}
+use Rattle.flat_code.specs.declared.registers.Held.{Held}
+use Rattle.flat_code.specs.Routines.Registers.{AreBelow}
+use Rattle.flat_code.specs.Routines.Metadata.{held_registers}
+use Rattle.flat_code.specs.Routines.Shape.{HasShape}
+use Rattle.flat_code.proofs.Routines.Distinct.{below_more}
+use Rattle.flat_code.proofs.Routines.Shape.{piece, piece_behind, below_both, shaped_append, shaped_joined, same_shape}
+use Rattle.flat_code.proofs.Routines.Shape.{shaped_until, up_to, at_most}
 use Rattle.flat_actions.specs.Lists.{give_code, guarded_code}
 use Rattle.flat_actions.proofs.Shapes.{pointer_from, give_shape, guarded_shape}
 use Rattle.lib_wrappers.specs.MovingRoutines.Copying.{bump, copy_loop, choose_order}

@@ -5,8 +5,8 @@
 //! - `%list FIRST COUNT BYTES`, a range of code and bytes in hexadecimal digits: their listing;
 //! - `%trip BYTES`: whether the listing of the bytes, all of them code, is read as the bytes.
 //!
-//! `stdin` and `stdout` are made by `vectors.py` beside them: lines of instructions by the assembler of GNU Binutils, the
-//! others by hand, with what `docs/FORMATS.md` says of them.
+//! `stdin` and `stdout` are made by `vectors.py` beside them: lines of instructions by the assembler of GNU Binutils,
+//! the others by hand, with what `docs/FORMATS.md` says of them.
 #![tactic(auto)]
 
 use anyhow::{Result, bail};

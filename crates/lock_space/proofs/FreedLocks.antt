@@ -5,18 +5,18 @@ use Rattle.std.proofs.lemmas.Bool.{cases_lt}
 use Rattle.addr_map.specs.declared.region.Region.TheVariants.{Locks, FreeLocks}
 use Rattle.addr_map.specs.Places.{MapSizes, AreMapped, region_start}
 use Rattle.rv_isa.specs.Results.{reg_result, extended}
-use Rattle.flat_meaning.specs.Memory.{Bytes, put, load, store}
-use Rattle.flat_meaning.specs.State.{State}
-use Rattle.flat_meaning.specs.Meaning.{Context}
-use Rattle.flat_meaning.proofs.Stored.{load_beside, load_stored}
-use Rattle.flat_routines.specs.Registers.{AreBelow}
-use Rattle.flat_routines.specs.Effects.{effects, AreAllowed}
-use Rattle.flat_routines.specs.Renaming.{through}
-use Rattle.flat_routines.specs.Metadata.{ShowsNothing}
-use Rattle.flat_routines.proofs.Distinct.{AreRegisters, register_of, registers_rename, others_stay}
-use Rattle.flat_routines.proofs.Wrapped.{straight_routine}
-use Rattle.flat_routines.proofs.Regions.{IsLaidOut, laid_out, shadow_not_shown}
-use Rattle.flat_routines.proofs.Objects.Changing.{global_is_lock}
+use Rattle.flat_code.specs.Memory.{Bytes, put, load, store}
+use Rattle.flat_code.specs.State.{State}
+use Rattle.flat_code.specs.Meaning.{Context}
+use Rattle.flat_code.proofs.Stored.{load_beside, load_stored}
+use Rattle.flat_code.specs.Routines.Registers.{AreBelow}
+use Rattle.flat_code.specs.Routines.Effects.{effects, AreAllowed}
+use Rattle.flat_code.specs.Routines.Renaming.{through}
+use Rattle.flat_code.specs.Routines.Metadata.{ShowsNothing}
+use Rattle.flat_code.proofs.Routines.Distinct.{AreRegisters, register_of, registers_rename, others_stay}
+use Rattle.flat_code.proofs.Routines.Wrapped.{straight_routine}
+use Rattle.flat_code.proofs.Routines.Regions.{IsLaidOut, laid_out, shadow_not_shown}
+use Rattle.flat_code.proofs.Routines.Objects.Changing.{global_is_lock}
 use Rattle.shadow_space.proofs.Entries.{context_of, agrees_shows, agrees_memory}
 use Rattle.lock_space.specs.Locks.{lock_total, keys_cell, used_cell, listed_cell, key_counter, used_locks, first_lock}
 use Rattle.lock_space.specs.Locks.{listed_lock, AreLocksGood, lock_space_size, KeepsButLocks}

@@ -4,12 +4,12 @@ use Rattle.std.proofs.Common.{sym, ap, ◌∙◌, subst, arith}
 use Rattle.std.proofs.lemmas.Bool.{cases_eq}
 use Rattle.addr_map.specs.declared.region.Region.TheVariants.{Locks}
 use Rattle.addr_map.specs.Places.{MapSizes, region_start}
-use Rattle.flat_meaning.specs.Memory.{Bytes, load, put}
-use Rattle.flat_meaning.proofs.Stored.{put_same, put_other}
-use Rattle.flat_routines.specs.Objects.StandsFor.{IsLock, global_lock}
+use Rattle.flat_code.specs.Memory.{Bytes, load, put}
+use Rattle.flat_code.proofs.Stored.{put_same, put_other}
+use Rattle.flat_code.specs.Routines.Objects.StandsFor.{IsLock, global_lock}
 use Rattle.lock_space.specs.Locks.{lock_total, used_locks, listed_cell, first_lock, listed_lock, IsFree, AreLocksGood}
 use Rattle.lock_space.specs.Routines.{OtherLocksStay, CanFresh, CanRelease}
-use Rattle.flat_routines.proofs.Spaces.Few.{AreFew, at_most}
+use Rattle.flat_code.proofs.Routines.Spaces.Few.{AreFew, at_most}
 use Rattle.lock_space.proofs.Spaces.{AreLocksLaidOut, IsOwnLock, own_lock}
 
 -- the list has an entry as before

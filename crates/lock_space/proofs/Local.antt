@@ -2,9 +2,9 @@
 use Rattle.std.proofs.Common.{◌≡◌, ℕ, zero, suc, ◌+◌, ◌-◌, ◌/◌, ◌%◌, ◌^◌, ◌<◌, ◌≤◌, refl, sym, ap, ◌∙◌, subst, arith}
 use Rattle.addr_map.specs.declared.region.Region.TheVariants.{Locks, Blocks}
 use Rattle.addr_map.specs.Places.{MapSizes, region_start}
-use Rattle.flat_meaning.specs.Memory.{Bytes, load}
-use Rattle.flat_meaning.proofs.Stored.{load_kept}
-use Rattle.flat_routines.specs.Objects.StandsFor.{IsLock, global_lock}
+use Rattle.flat_code.specs.Memory.{Bytes, load}
+use Rattle.flat_code.proofs.Stored.{load_kept}
+use Rattle.flat_code.specs.Routines.Objects.StandsFor.{IsLock, global_lock}
 use Rattle.lock_space.specs.Locks.{lock_total, keys_cell, used_cell, listed_cell, key_counter, used_locks, first_lock}
 use Rattle.lock_space.specs.Locks.{listed_lock, IsFree, AreLocksGood, KeepsLocks, IsLockStart}
 use Rattle.lock_space.proofs.Spaces.{AreLocksLaidOut, own_lock}

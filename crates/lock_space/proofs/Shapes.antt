@@ -2,9 +2,9 @@
 use Rattle.std.proofs.Common.{ℕ, ◌+◌, [], ◌∷◌, refl, arith}
 use Rattle.addr_map.specs.declared.region.Region.TheVariants.{Locks, FreeLocks}
 use Rattle.addr_map.specs.Places.{MapSizes, AreMapped}
-use Rattle.flat_routines.specs.Registers.{AreBelow}
-use Rattle.flat_routines.specs.Shape.{HasShape}
-use Rattle.flat_routines.proofs.Shape.{shaped, both, start_short, shaped_routine}
+use Rattle.flat_code.specs.Routines.Registers.{AreBelow}
+use Rattle.flat_code.specs.Routines.Shape.{HasShape}
+use Rattle.flat_code.proofs.Routines.Shape.{shaped, both, start_short, shaped_routine}
 use Rattle.lock_space.specs.Routines.{next_code, fresh_code, release_code}
 
 module _ (map : MapSizes) (mapped : AreMapped map) where

@@ -3,9 +3,9 @@ use Rattle.std.proofs.Common.{◌≡◌, ◌≢◌, ℕ, ◌+◌, ◌*◌, ◌%�
 use Rattle.std.proofs.Common.{arith}
 use Rattle.addr_map.specs.declared.region.Region.TheVariants.{Locks, FreeLocks, Blocks, Cells}
 use Rattle.addr_map.specs.Places.{MapSizes, AreMapped, spaces_begin, region_size, region_start, region_end}
-use Rattle.flat_meaning.specs.Spaces.{is_allowed}
-use Rattle.flat_routines.specs.Objects.StandsFor.{IsLock, global_lock}
-use Rattle.flat_routines.proofs.Spaces.Quiet.{space_allowed}
+use Rattle.flat_code.specs.Spaces.{is_allowed}
+use Rattle.flat_code.specs.Routines.Objects.StandsFor.{IsLock, global_lock}
+use Rattle.flat_code.proofs.Routines.Spaces.Quiet.{space_allowed}
 use Rattle.lock_space.specs.Locks.{lock_total}
 
 -- the lock words, then the cells and the list, then the table of blocks

@@ -2,8 +2,8 @@
 use Rattle.std.specs.Prelude.{◌≡◌, ◌≢◌, ℕ, ◌+◌, ◌-◌, ◌*◌, ◌/◌, ◌%◌, ◌^◌, ◌<◌, ◌≤◌}
 use Rattle.addr_map.specs.declared.region.Region.TheVariants.{Locks, FreeLocks, Blocks}
 use Rattle.addr_map.specs.Places.{MapSizes, region_start}
-use Rattle.flat_meaning.specs.Memory.{Bytes, load, KeepsBut, Keeps}
-use Rattle.flat_routines.specs.Objects.StandsFor.{IsLock, global_lock}
+use Rattle.flat_code.specs.Memory.{Bytes, load, KeepsBut, Keeps}
+use Rattle.flat_code.specs.Routines.Objects.StandsFor.{IsLock, global_lock}
 
 -- ---- where they stand
 

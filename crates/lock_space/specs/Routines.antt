@@ -5,14 +5,14 @@ use Rattle.rv_isa.specs.declared.instruction.LoadOp.TheVariants.{Ld}
 use Rattle.rv_isa.specs.declared.instruction.StoreOp.TheVariants.{Sd}
 use Rattle.addr_map.specs.declared.region.Region.TheVariants.{Locks, FreeLocks}
 use Rattle.addr_map.specs.Places.{MapSizes, region_start}
-use Rattle.flat_meaning.specs.declared.instruction.RightOperand.TheVariants.{Register, Number}
-use Rattle.flat_meaning.specs.declared.instruction.FlatInstruction.{FlatInstruction}
-use Rattle.flat_meaning.specs.declared.instruction.FlatInstruction.TheVariants.{Constant, Operate, Load, Store}
-use Rattle.flat_meaning.specs.Memory.{Bytes, load}
-use Rattle.flat_meaning.specs.State.{State}
-use Rattle.flat_routines.specs.Registers.{OthersStay}
-use Rattle.flat_routines.specs.Metadata.{ShowsNothing}
-use Rattle.flat_routines.specs.Objects.StandsFor.{IsLock, global_lock}
+use Rattle.flat_code.specs.declared.instruction.RightOperand.TheVariants.{Register, Number}
+use Rattle.flat_code.specs.declared.instruction.FlatInstruction.{FlatInstruction}
+use Rattle.flat_code.specs.declared.instruction.FlatInstruction.TheVariants.{Constant, Operate, Load, Store}
+use Rattle.flat_code.specs.Memory.{Bytes, load}
+use Rattle.flat_code.specs.State.{State}
+use Rattle.flat_code.specs.Routines.Registers.{OthersStay}
+use Rattle.flat_code.specs.Routines.Metadata.{ShowsNothing}
+use Rattle.flat_code.specs.Routines.Objects.StandsFor.{IsLock, global_lock}
 use Rattle.shadow_space.specs.Form.{DoesAnywhere}
 use Rattle.lock_space.specs.Locks.{key_counter, IsFree, AreLocksGood, KeepsButLocks}
 

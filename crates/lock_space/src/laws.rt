@@ -2,8 +2,8 @@
 
 ghost use Rattle.std.specs.Prelude.{◌≡◌, ℕ};
 ghost use Rattle.addr_map.specs.Places.{MapSizes, AreMapped};
-ghost use Rattle.flat_meaning.specs.Memory.{Bytes, load};
-ghost use Rattle.flat_routines.specs.Objects.StandsFor.{IsLock};
+ghost use Rattle.flat_code.specs.Memory.{Bytes, load};
+ghost use Rattle.flat_code.specs.Routines.Objects.StandsFor.{IsLock};
 ghost use Rattle.lock_space.specs.Locks.{key_counter, AreLocksGood, KeepsLocks, IsLockStart};
 
 /// Lock words, the counter of keys and what holds of the free list depend on the bytes of the lock space alone.

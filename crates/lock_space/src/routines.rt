@@ -3,14 +3,14 @@
 
 ghost use Rattle.std.specs.Prelude.{◌≡◌, ℕ, ◌+◌, ◌≤◌, ◌^◌, IfOk, [], ◌∷◌};
 ghost use Rattle.addr_map.specs.Places.{AreMapped};
-ghost use Rattle.flat_routines.specs.Registers.{AreDistinct, AreBelow};
-ghost use Rattle.flat_routines.specs.InputOutput.{IsWithoutInputOutput};
-ghost use Rattle.flat_routines.specs.Shape.{HasShape};
+ghost use Rattle.flat_code.specs.Routines.Registers.{AreDistinct, AreBelow};
+ghost use Rattle.flat_code.specs.Routines.InputOutput.{IsWithoutInputOutput};
+ghost use Rattle.flat_code.specs.Routines.Shape.{HasShape};
 ghost use Rattle.lock_space.specs.Routines.{IsNextRoutine, IsFreshRoutine, IsReleaseRoutine};
 ghost use Rattle.lock_space.specs.Routines.{next_code, fresh_code, release_code};
 
 use addr_map::{AddrMap, Region};
-use flat_meaning::{FlatInstruction, RightOperand};
+use flat_code::{FlatInstruction, RightOperand};
 use rv_isa::{LoadOp, RegOp, StoreOp};
 use std::alloc::{AllocError, Global};
 

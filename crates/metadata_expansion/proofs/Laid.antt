@@ -8,9 +8,10 @@ use Rattle.tac_ir.specs.declared.instruction.Instruction.{Instruction}
 use Rattle.tac_ir.specs.declared.function.CodeFunction.{CodeFunction}
 use Rattle.tac_ir.specs.declared.function.Tac.{Tac}
 use Rattle.tac_ir.specs.Edges.{successors}
-use Rattle.flat_meaning.specs.declared.instruction.FlatInstruction.{FlatInstruction}
-use Rattle.flat_meaning.specs.declared.function.FlatFunction.{FlatFunction}
-use Rattle.metadata_plan.specs.Laid.{begin_size, falls, jump, jump_unless, jumps, laid_from, place_of, size_at, size_from}
+use Rattle.flat_code.specs.declared.instruction.FlatInstruction.{FlatInstruction}
+use Rattle.flat_code.specs.declared.function.FlatFunction.{FlatFunction}
+use Rattle.metadata_plan.specs.Laid.{begin_size, falls, jump, jump_unless, jumps, laid_from, place_of, size_at}
+use Rattle.metadata_plan.specs.Laid.{size_from}
 use Rattle.metadata_plan.specs.Laid.{function_of}
 use Rattle.metadata_plan.specs.Laid.{functions_of}
 use Rattle.metadata_plan.specs.OperatorLists.Operators.{operators}

@@ -3,8 +3,8 @@ use Rattle.std.proofs.Common.{◌≡◌, ℕ, zero, suc, ◌+◌, ◌*◌, ◌^�
 use Rattle.std.proofs.Common.{ap, refl, sym, ◌∙◌, append_assoc, arith}
 use Rattle.c_tree.specs.declared.program.Variable.{Variable}
 use Rattle.tac_ir.specs.declared.function.CodeFunction.{CodeFunction}
-use Rattle.flat_meaning.specs.declared.instruction.FlatInstruction.{FlatInstruction}
-use Rattle.flat_meaning.specs.declared.instruction.FlatInstruction.TheVariants.{Constant, Move}
+use Rattle.flat_code.specs.declared.instruction.FlatInstruction.{FlatInstruction}
+use Rattle.flat_code.specs.declared.instruction.FlatInstruction.TheVariants.{Constant, Move}
 use Rattle.metadata_plan.specs.Registers.{words_of, words_in, register_of, all_variables, most_temporaries}
 use Rattle.metadata_plan.specs.Registers.{temporary_register, first_free}
 use Rattle.metadata_plan.specs.Blocks.{argument_moves, zeros}

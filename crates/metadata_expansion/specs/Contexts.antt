@@ -1,7 +1,7 @@
 -- What the code of a function is made from, and that code.
 use Rattle.std.specs.Prelude.{List}
 use Rattle.tac_ir.specs.declared.instruction.Instruction.{Instruction}
-use Rattle.flat_meaning.specs.declared.instruction.FlatInstruction.{FlatInstruction}
+use Rattle.flat_code.specs.declared.instruction.FlatInstruction.{FlatInstruction}
 use Rattle.metadata_plan.specs.Blocks.{block, prologue}
 use Rattle.metadata_plan.specs.OperatorLists.Operators.{operators}
 use Rattle.metadata_expansion.specs.declared.context.FunctionContext.{FunctionContext}

@@ -2,7 +2,7 @@
 use Rattle.std.specs.Prelude.{◌≡◌, ℕ, ◌+◌, List, Some, slice_get, get_or, reverse}
 use Rattle.tac_ir.specs.declared.instruction.Instruction.{Instruction}
 use Rattle.tac_ir.specs.declared.function.CodeFunction.{CodeFunction}
-use Rattle.flat_meaning.specs.declared.instruction.FlatInstruction.{FlatInstruction}
+use Rattle.flat_code.specs.declared.instruction.FlatInstruction.{FlatInstruction}
 use Rattle.metadata_plan.specs.Laid.{begin_size, place_of, size_from}
 use Rattle.metadata_expansion.specs.declared.layout.Layout.{Layout}
 use Rattle.metadata_expansion.specs.declared.layout.Places.{Places}

@@ -1,7 +1,7 @@
 //! The block of each instruction.
 
 ghost use Rattle.std.specs.Prelude.{◌≡◌, ℕ, ◌+◌, ◌<◌, ◌≤◌, ◌^◌, ◌++◌, ◌∷◌, [], OnOk};
-ghost use Rattle.flat_meaning.specs.declared.instruction.FlatInstruction.TheVariants.{Branch as Choice};
+ghost use Rattle.flat_code.specs.declared.instruction.FlatInstruction.TheVariants.{Branch as Choice};
 ghost use Rattle.metadata_plan.specs.Blocks.{block, conversion, library_code};
 ghost use Rattle.metadata_expansion.specs.Numbering.{IsAmong};
 ghost use Rattle.metadata_expansion.specs.Contexts.{HasRegisters, block_in};
@@ -12,7 +12,7 @@ use crate::context::FunctionContext;
 use crate::list::put;
 use crate::updates::{PlainUpdate, put_update};
 use c_tree::{Kind, Routine};
-use flat_meaning::{FlatInstruction, RightOperand};
+use flat_code::{FlatInstruction, RightOperand};
 use flat_operators::binary;
 use flat_operators::binary::put_binary;
 use flat_operators::constant::put_constant;

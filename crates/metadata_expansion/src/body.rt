@@ -12,7 +12,7 @@ use crate::jumps::{follows, jump, put_jump};
 use crate::laying::{BlockSource, beginning_size};
 use crate::layout::{Layout, instruction_at, placed};
 use crate::list::put;
-use flat_meaning::FlatInstruction;
+use flat_code::FlatInstruction;
 use std::alloc::{AllocError, Global};
 use tac_ir::{CodeFunction, Instruction, Ways, ways_of};
 

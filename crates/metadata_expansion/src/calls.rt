@@ -4,7 +4,7 @@ ghost use Rattle.std.specs.Prelude.{◌≡◌, ◌+◌, ◌*◌, ◌<◌, ◌≤
 ghost use Rattle.std.specs.Prelude.{if◌then◌else◌, OnOk};
 ghost use Rattle.sb_base.specs.declared.ending.Ending.TheVariants.{Abort};
 ghost use Rattle.tac_ir.specs.Meaning.{function_in};
-ghost use Rattle.flat_meaning.specs.declared.instruction.FlatInstruction.TheVariants.{End};
+ghost use Rattle.flat_code.specs.declared.instruction.FlatInstruction.TheVariants.{End};
 ghost use Rattle.metadata_plan.specs.Registers.{most_temporaries};
 ghost use Rattle.metadata_plan.specs.Part.{takes};
 ghost use Rattle.metadata_plan.specs.Blocks.{argument_moves, call_code, call_tests, room_in};
@@ -14,7 +14,7 @@ ghost use Rattle.metadata_expansion.specs.Contexts.{HasRegisters};
 use crate::context::FunctionContext;
 use crate::list::put;
 use addr_map::AddrMap;
-use flat_meaning::{FlatInstruction, RightOperand};
+use flat_code::{FlatInstruction, RightOperand};
 use rv_isa::BranchOp;
 use sb_base::{Ending, Line};
 use std::alloc::AllocError;

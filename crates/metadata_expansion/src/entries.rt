@@ -545,8 +545,9 @@ fn is_closed(
     Ok(true)
 }
 
-/// The temporaries of a function that have entries: a closed set of them, and none where no instruction reads a temporary
-/// as a pointer. It takes time and memory for each node and each 64 temporaries, and fails only for want of memory.
+/// The temporaries of a function that have entries: a closed set of them, and none where no instruction reads a
+/// temporary as a pointer. It takes time and memory for each node and each 64 temporaries, and fails only for want of
+/// memory.
 pub fn entry_table(
     alloc: Global,
     program: &Tac,

@@ -8,7 +8,7 @@ ghost use Rattle.metadata_expansion.specs.Joins.{AreJoins};
 
 use crate::joins::Joins;
 use crate::list::put;
-use flat_meaning::FlatInstruction;
+use flat_code::FlatInstruction;
 use std::alloc::AllocError;
 use tac_ir::{CodeFunction, Ways};
 

@@ -2,9 +2,9 @@
 
 ghost use Rattle.std.specs.Prelude.{◌≡◌, ◌++◌, List, length, OnOk, IfOk};
 ghost use Rattle.tac_ir.specs.declared.instruction.Instruction.{Instruction};
-ghost use Rattle.flat_meaning.specs.declared.instruction.FlatInstruction.{FlatInstruction};
+ghost use Rattle.flat_code.specs.declared.instruction.FlatInstruction.{FlatInstruction};
 
-use flat_meaning::FlatInstruction;
+use flat_code::FlatInstruction;
 use std::alloc::{AllocError, Global};
 use tac_ir::Instruction;
 

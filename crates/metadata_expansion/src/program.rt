@@ -15,7 +15,7 @@ use crate::homes::homes;
 use crate::list::{push, put};
 use crate::registers::{Registers, words_in};
 use addr_map::AddrMap;
-use flat_meaning::{FlatFunction, FlatInstruction, FlatProgram};
+use flat_code::{FlatFunction, FlatInstruction, FlatProgram};
 use sb_base::Line;
 use std::alloc::{AllocError, Global};
 use tac_ir::{CodeFunction, Tac};

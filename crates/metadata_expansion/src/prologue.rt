@@ -11,7 +11,7 @@ use crate::laying::BlockSource;
 use crate::list::put;
 use crate::registers::{words_in, words_of};
 use c_tree::Variable;
-use flat_meaning::FlatInstruction;
+use flat_code::FlatInstruction;
 use std::alloc::AllocError;
 use tac_ir::{CodeFunction, Instruction};
 

@@ -12,7 +12,7 @@ ghost use Rattle.metadata_plan.specs.OperatorLists.Operators.{operators};
 use crate::context::FunctionContext;
 use crate::list::put;
 use c_tree::{Fixity, Update};
-use flat_meaning::FlatInstruction;
+use flat_code::FlatInstruction;
 use flat_operators::binary;
 use flat_operators::binary::put_binary;
 use flat_operators::conversion::put_conversion;

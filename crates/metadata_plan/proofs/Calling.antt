@@ -21,14 +21,14 @@ use Rattle.tac_ir.specs.Stage.{Temps, no_temps, gathered}
 use Rattle.tac_ir.specs.Meaning.{header_of_code}
 use Rattle.rv_isa.specs.declared.instruction.BranchOp.TheVariants.{Bltu}
 use Rattle.rv_isa.specs.Results.{wrap, branch_taken}
-use Rattle.flat_meaning.specs.declared.instruction.RightOperand.TheVariants.{Number}
-use Rattle.flat_meaning.specs.declared.instruction.FlatInstruction.TheVariants as flat_code
-use Rattle.flat_meaning.specs.declared.function.FlatProgram.{FlatProgram}
-use Rattle.flat_meaning.specs.Memory.{put}
-use Rattle.flat_meaning.specs.State as flat
-use Rattle.flat_meaning.specs.Calls.{function_in, charged, arguments}
-use Rattle.flat_meaning.specs.Meaning.{body_of, step, weight_of}
-use Rattle.flat_routines.specs.Routine.{HasAt}
+use Rattle.flat_code.specs.declared.instruction.RightOperand.TheVariants.{Number}
+use Rattle.flat_code.specs.declared.instruction.FlatInstruction.TheVariants as flat_code
+use Rattle.flat_code.specs.declared.function.FlatProgram.{FlatProgram}
+use Rattle.flat_code.specs.Memory.{put}
+use Rattle.flat_code.specs.State as flat
+use Rattle.flat_code.specs.Calls.{function_in, charged, arguments}
+use Rattle.flat_code.specs.Meaning.{body_of, step, weight_of}
+use Rattle.flat_code.specs.Routines.Routine.{HasAt}
 use Rattle.metadata_plan.specs.Registers.{all_variables, most_temporaries, variable_register}
 use Rattle.metadata_plan.specs.Registers.{temporary_register, first_free}
 use Rattle.metadata_plan.specs.Blocks.{call_tests, argument_moves, zeros, zero_variables}
@@ -37,8 +37,8 @@ use Rattle.std.proofs.lemmas.Bool.{eqb-true, eqb-false}
 use Rattle.source_meaning.specs.Calls.{plain_count}
 use Rattle.metadata_plan.specs.Registers.{words_of}
 use Rattle.metadata_plan.proofs.Flat.{constant_comes}
-use Rattle.flat_meaning.specs.declared.instruction.FlatInstruction.{FlatInstruction}
-use Rattle.flat_meaning.proofs.Stored.{put_same, put_other}
+use Rattle.flat_code.specs.declared.instruction.FlatInstruction.{FlatInstruction}
+use Rattle.flat_code.proofs.Stored.{put_same, put_other}
 use Rattle.metadata_plan.specs.Part.{are_integers}
 use Rattle.metadata_plan.specs.Matching.{Holds}
 use Rattle.metadata_plan.proofs.Numbers.{integers_words, integers_register, integers_front}

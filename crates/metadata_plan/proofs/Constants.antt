@@ -3,7 +3,7 @@ use Rattle.std.proofs.Common.{◌≡◌, ℕ, ◌+◌, ◌-◌, ◌^◌, ◌<◌
 use Rattle.std.proofs.Common.{ap, lt-ltb, ltb-true}
 use Rattle.std.specs.Prelude.{nat_lt}
 use Rattle.addr_map.specs.Places.{MapSizes}
-use Rattle.flat_meaning.specs.declared.function.FlatProgram.{FlatProgram}
+use Rattle.flat_code.specs.declared.function.FlatProgram.{FlatProgram}
 use Rattle.metadata_plan.specs.Operators.{OperatorCode, AreOperators, Position, Computes, IsHere}
 
 -- one that an instruction holds takes no other

@@ -21,15 +21,15 @@ use Rattle.tac_ir.specs.declared.function.Tac.{Tac}
 use Rattle.tac_ir.specs.Stage.{no_temps, Frame, Waits, Entered, Stage, Stands, Over, came}
 use Rattle.tac_ir.specs.Costs.{spent, fourfold, heavier}
 use Rattle.tac_ir.specs.Meaning.{header_of_code, begun}
-use Rattle.flat_meaning.specs.declared.instruction.FlatInstruction.TheVariants as flat_code
-use Rattle.flat_meaning.specs.declared.function.FlatFunction.{FlatFunction}
-use Rattle.flat_meaning.specs.declared.function.FlatProgram.{FlatProgram}
-use Rattle.flat_meaning.specs.State as flat
-use Rattle.flat_meaning.specs.Calls.{function_in, room_if, rooms, charged, arguments, with_results}
-use Rattle.flat_meaning.specs.Meaning.{body_of, step, parameters_of, results_of, has_room, enters, instruction_at}
-use Rattle.flat_routines.specs.Routine.{HasAt}
-use Rattle.flat_routines.proofs.Steps.{has_self}
-use Rattle.flat_routines.specs.Objects.StandsFor.{Views, Keys, StandsFor}
+use Rattle.flat_code.specs.declared.instruction.FlatInstruction.TheVariants as flat_code
+use Rattle.flat_code.specs.declared.function.FlatFunction.{FlatFunction}
+use Rattle.flat_code.specs.declared.function.FlatProgram.{FlatProgram}
+use Rattle.flat_code.specs.State as flat
+use Rattle.flat_code.specs.Calls.{function_in, room_if, rooms, charged, arguments, with_results}
+use Rattle.flat_code.specs.Meaning.{body_of, step, parameters_of, results_of, has_room, enters, instruction_at}
+use Rattle.flat_code.specs.Routines.Routine.{HasAt}
+use Rattle.flat_code.proofs.Routines.Steps.{has_self}
+use Rattle.flat_code.specs.Routines.Objects.StandsFor.{Views, Keys, StandsFor}
 use Rattle.metadata_plan.specs.Operators.{OperatorCode, AreOperators}
 use Rattle.metadata_plan.specs.Blocks.{prologue, call_tests, entry_code}
 use Rattle.metadata_plan.specs.Expanded.{IsExpanded, EntersAt}

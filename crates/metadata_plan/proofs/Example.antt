@@ -33,14 +33,14 @@ use Rattle.rv_isa.specs.declared.instruction.BranchOp.TheVariants.{Bne, Bltu}
 use Rattle.rv_isa.specs.declared.instruction.RegOp.TheVariants.{Sltu, Xor}
 use Rattle.rv_isa.specs.declared.instruction.RegOp32.TheVariants.{Addw}
 use Rattle.rv_isa.specs.Results.{branch_taken, reg_result, reg32_result}
-use Rattle.flat_meaning.specs.declared.instruction.RightOperand.TheVariants.{Register, Number}
-use Rattle.flat_meaning.specs.declared.instruction.FlatInstruction.{FlatInstruction}
-use Rattle.flat_meaning.specs.declared.instruction.FlatInstruction.TheVariants as flat
-use Rattle.flat_meaning.specs.declared.function.FlatFunction.{FlatFunction}
-use Rattle.flat_meaning.specs.declared.function.FlatProgram.{FlatProgram}
-use Rattle.flat_meaning.specs.Memory.{put}
-use Rattle.flat_meaning.specs.Calls.{function_in, rooms}
-use Rattle.flat_meaning.specs.Meaning.{flat_meaning}
+use Rattle.flat_code.specs.declared.instruction.RightOperand.TheVariants.{Register, Number}
+use Rattle.flat_code.specs.declared.instruction.FlatInstruction.{FlatInstruction}
+use Rattle.flat_code.specs.declared.instruction.FlatInstruction.TheVariants as flat
+use Rattle.flat_code.specs.declared.function.FlatFunction.{FlatFunction}
+use Rattle.flat_code.specs.declared.function.FlatProgram.{FlatProgram}
+use Rattle.flat_code.specs.Memory.{put}
+use Rattle.flat_code.specs.Calls.{function_in, rooms}
+use Rattle.flat_code.specs.Meaning.{flat_meaning}
 use Rattle.metadata_plan.specs.Operators.{OperatorCode}
 use Rattle.metadata_plan.specs.Blocks.{block, prologue, entry_code}
 use Rattle.metadata_plan.specs.Expanded.{Falls, Forward, Back, IsPut, IsExpandedFunction, ExpandsAt}

@@ -11,17 +11,17 @@ use Rattle.sb_base.specs.Endings.{code_of, report_of}
 use Rattle.rv_isa.specs.declared.instruction.BranchOp.{BranchOp}
 use Rattle.rv_isa.specs.declared.instruction.RegOp.{RegOp}
 use Rattle.rv_isa.specs.Results.{wrap, branch_taken, reg_result}
-use Rattle.flat_meaning.specs.declared.instruction.RightOperand.{RightOperand}
-use Rattle.flat_meaning.specs.declared.instruction.FlatInstruction.{FlatInstruction}
-use Rattle.flat_meaning.specs.declared.instruction.FlatInstruction.TheVariants as flat
-use Rattle.flat_meaning.specs.declared.function.FlatFunction.{FlatFunction}
-use Rattle.flat_meaning.specs.declared.function.FlatProgram.{FlatProgram}
-use Rattle.flat_meaning.specs.Memory.{put}
-use Rattle.flat_meaning.specs.State.{State, Frame, Stage, Stands, Over}
-use Rattle.flat_meaning.specs.Calls.{function_in, record_bytes, charged}
-use Rattle.flat_meaning.specs.Meaning.{instruction_at, at_instruction, body_of, weight_of, step, right_value, received}
-use Rattle.flat_meaning.specs.Words.{HasWords}
-use Rattle.flat_meaning.proofs.Words.{step_fits}
+use Rattle.flat_code.specs.declared.instruction.RightOperand.{RightOperand}
+use Rattle.flat_code.specs.declared.instruction.FlatInstruction.{FlatInstruction}
+use Rattle.flat_code.specs.declared.instruction.FlatInstruction.TheVariants as flat
+use Rattle.flat_code.specs.declared.function.FlatFunction.{FlatFunction}
+use Rattle.flat_code.specs.declared.function.FlatProgram.{FlatProgram}
+use Rattle.flat_code.specs.Memory.{put}
+use Rattle.flat_code.specs.State.{State, Frame, Stage, Stands, Over}
+use Rattle.flat_code.specs.Calls.{function_in, record_bytes, charged}
+use Rattle.flat_code.specs.Meaning.{instruction_at, at_instruction, body_of, weight_of, step, right_value, received}
+use Rattle.flat_code.specs.Words.{HasWords}
+use Rattle.flat_code.proofs.Words.{step_fits}
 use Rattle.metadata_plan.specs.Expanded.{Leads, Falls, Forward, Back}
 
 pub weight_small : (o : Option FlatFunction) → weight_of o ≤ 2

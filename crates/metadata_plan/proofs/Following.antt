@@ -21,14 +21,14 @@ use Rattle.tac_ir.specs.Stage.{Temps, Frame, Stage, Begins, Stands, Over, Stuck,
 use Rattle.tac_ir.specs.Costs.{cost, spent}
 use Rattle.tac_ir.specs.Meaning.{effect, act_at, code_of, step, setting_of_code, objects_before, first_stage}
 use Rattle.tac_ir.specs.Meaning.{tac_meaning}
-use Rattle.flat_meaning.specs.declared.function.FlatProgram.{FlatProgram}
-use Rattle.flat_meaning.specs.Memory.{Bytes, AreBytes}
-use Rattle.flat_meaning.specs.State as flat
-use Rattle.flat_meaning.specs.Meaning.{step as flat_step, started, flat_meaning}
-use Rattle.flat_meaning.specs.Words.{HasWords}
-use Rattle.flat_routines.specs.Objects.StandsFor.{Views}
-use Rattle.flat_routines.specs.Objects.Start.{start_keys, IsStart}
-use Rattle.flat_routines.proofs.Objects.Starts.{starts}
+use Rattle.flat_code.specs.declared.function.FlatProgram.{FlatProgram}
+use Rattle.flat_code.specs.Memory.{Bytes, AreBytes}
+use Rattle.flat_code.specs.State as flat
+use Rattle.flat_code.specs.Meaning.{step as flat_step, started, flat_meaning}
+use Rattle.flat_code.specs.Words.{HasWords}
+use Rattle.flat_code.specs.Routines.Objects.StandsFor.{Views}
+use Rattle.flat_code.specs.Routines.Objects.Start.{start_keys, IsStart}
+use Rattle.flat_code.proofs.Routines.Objects.Starts.{starts}
 use Rattle.metadata_plan.specs.Operators.{OperatorCode, AreOperators}
 use Rattle.metadata_plan.specs.Expanded.{IsExpanded}
 use Rattle.metadata_plan.specs.Part.{IsIntegerCode}

@@ -9,9 +9,9 @@ use Rattle.source_meaning.specs.Actions.{integer}
 use Rattle.source_meaning.specs.Structures.{rvalue}
 use Rattle.tac_ir.specs.declared.function.CodeFunction.{CodeFunction}
 use Rattle.tac_ir.specs.Stage.{Temps, with_temp}
-use Rattle.flat_meaning.specs.Memory.{put}
-use Rattle.flat_meaning.specs.State as flat
-use Rattle.flat_meaning.proofs.Stored.{put_same, put_other}
+use Rattle.flat_code.specs.Memory.{put}
+use Rattle.flat_code.specs.State as flat
+use Rattle.flat_code.proofs.Stored.{put_same, put_other}
 use Rattle.metadata_plan.specs.Registers.{words_in, all_variables, most_temporaries, variable_register}
 use Rattle.metadata_plan.specs.Registers.{temporary_register, first_free}
 use Rattle.metadata_plan.specs.Part.{are_integers}

@@ -28,19 +28,19 @@ use Rattle.tac_ir.specs.Costs.{spent}
 use Rattle.tac_ir.specs.Meaning.{effect, given_in, begun}
 use Rattle.rv_isa.specs.declared.instruction.BranchOp.TheVariants.{Beq, Bne}
 use Rattle.rv_isa.specs.Results.{branch_taken}
-use Rattle.flat_meaning.specs.declared.instruction.RightOperand.TheVariants.{Register, Number}
-use Rattle.flat_meaning.specs.declared.function.FlatProgram.{FlatProgram}
-use Rattle.flat_meaning.specs.Memory.{put}
-use Rattle.flat_meaning.specs.State as flat
-use Rattle.flat_meaning.specs.Calls.{function_in}
-use Rattle.flat_meaning.specs.declared.instruction.FlatInstruction.{FlatInstruction}
-use Rattle.flat_meaning.specs.declared.instruction.FlatInstruction.TheVariants.{Branch}
-use Rattle.flat_meaning.specs.Meaning.{body_of, instruction_at}
-use Rattle.flat_meaning.specs.Words.{IsOfWords}
-use Rattle.flat_routines.specs.Objects.StandsFor.{Views}
+use Rattle.flat_code.specs.declared.instruction.RightOperand.TheVariants.{Register, Number}
+use Rattle.flat_code.specs.declared.function.FlatProgram.{FlatProgram}
+use Rattle.flat_code.specs.Memory.{put}
+use Rattle.flat_code.specs.State as flat
+use Rattle.flat_code.specs.Calls.{function_in}
+use Rattle.flat_code.specs.declared.instruction.FlatInstruction.{FlatInstruction}
+use Rattle.flat_code.specs.declared.instruction.FlatInstruction.TheVariants.{Branch}
+use Rattle.flat_code.specs.Meaning.{body_of, instruction_at}
+use Rattle.flat_code.specs.Words.{IsOfWords}
+use Rattle.flat_code.specs.Routines.Objects.StandsFor.{Views}
 use Rattle.metadata_plan.specs.Registers.{all_variables, most_temporaries, variable_register, temporary_register}
 use Rattle.metadata_plan.specs.Registers.{first_free}
-use Rattle.flat_routines.proofs.Steps.{has_front, has_back}
+use Rattle.flat_code.proofs.Routines.Steps.{has_front, has_back}
 use Rattle.metadata_plan.specs.Operators.{OperatorCode, AreOperators, Position, Computes, binary_most}
 use Rattle.metadata_plan.specs.Expanded.{Leads, IsExpanded}
 use Rattle.std.proofs.Common.{inl, inr}

@@ -12,16 +12,16 @@ use Rattle.tac_ir.specs.Temporaries.{temporaries}
 use Rattle.tac_ir.specs.Stage.{Temps, Frame, Stage, Stands, Over}
 use Rattle.sb_base.specs.declared.ending.Ending.{Ending}
 use Rattle.sb_base.specs.Endings.{code_of, report_of}
-use Rattle.flat_meaning.specs.declared.instruction.FlatInstruction.{FlatInstruction}
-use Rattle.flat_meaning.specs.declared.function.FlatFunction.{FlatFunction}
-use Rattle.flat_meaning.specs.declared.function.FlatProgram.{FlatProgram}
-use Rattle.flat_meaning.specs.State as flat
-use Rattle.flat_meaning.specs.Calls.{function_in, room_if}
-use Rattle.flat_meaning.specs.Meaning.{body_of, parameters_of, results_of, step}
-use Rattle.flat_routines.specs.Objects.StandsFor.{Views, StandsFor}
+use Rattle.flat_code.specs.declared.instruction.FlatInstruction.{FlatInstruction}
+use Rattle.flat_code.specs.declared.function.FlatFunction.{FlatFunction}
+use Rattle.flat_code.specs.declared.function.FlatProgram.{FlatProgram}
+use Rattle.flat_code.specs.State as flat
+use Rattle.flat_code.specs.Calls.{function_in, room_if}
+use Rattle.flat_code.specs.Meaning.{body_of, parameters_of, results_of, step}
+use Rattle.flat_code.specs.Routines.Objects.StandsFor.{Views, StandsFor}
 use Rattle.metadata_plan.specs.Registers.{words_in, all_variables, most_temporaries}
 use Rattle.metadata_plan.specs.Operators.{OperatorCode, AreOperators, Position, Computes}
-use Rattle.flat_routines.specs.Routine.{HasAt}
+use Rattle.flat_code.specs.Routines.Routine.{HasAt}
 use Rattle.metadata_plan.specs.Blocks.{prologue}
 use Rattle.metadata_plan.specs.Expanded.{Leads, IsPut, ExpandsAt, IsExpanded}
 use Rattle.std.proofs.lemmas.Option.{same_Some}

@@ -19,17 +19,17 @@ use Rattle.tac_ir.specs.declared.function.Tac.{Tac}
 use Rattle.tac_ir.specs.Stage.{Temps, with_temp, gathered, Waiting, Frame, Waits, Entered, Stage, Stands, Over}
 use Rattle.tac_ir.specs.Costs.{handed_bytes, spent}
 use Rattle.tac_ir.specs.Meaning.{function_in as code_in, called_at, called, effect, given_to, line_in, objects_before}
-use Rattle.flat_meaning.specs.declared.instruction.FlatInstruction.{FlatInstruction}
-use Rattle.flat_meaning.specs.declared.instruction.FlatInstruction.TheVariants as flat_code
-use Rattle.flat_meaning.specs.declared.function.FlatProgram.{FlatProgram}
-use Rattle.flat_meaning.specs.Memory.{put}
-use Rattle.flat_meaning.specs.State as flat
-use Rattle.flat_meaning.specs.Calls.{function_in, charged, with_results}
-use Rattle.flat_meaning.specs.Meaning.{body_of, step, weight_of, started}
-use Rattle.flat_meaning.proofs.Stored.{put_other}
-use Rattle.flat_routines.specs.Routine.{HasAt}
-use Rattle.flat_routines.proofs.Steps.{has_front, has_back}
-use Rattle.flat_routines.specs.Objects.StandsFor.{Views, StandsFor}
+use Rattle.flat_code.specs.declared.instruction.FlatInstruction.{FlatInstruction}
+use Rattle.flat_code.specs.declared.instruction.FlatInstruction.TheVariants as flat_code
+use Rattle.flat_code.specs.declared.function.FlatProgram.{FlatProgram}
+use Rattle.flat_code.specs.Memory.{put}
+use Rattle.flat_code.specs.State as flat
+use Rattle.flat_code.specs.Calls.{function_in, charged, with_results}
+use Rattle.flat_code.specs.Meaning.{body_of, step, weight_of, started}
+use Rattle.flat_code.proofs.Stored.{put_other}
+use Rattle.flat_code.specs.Routines.Routine.{HasAt}
+use Rattle.flat_code.proofs.Routines.Steps.{has_front, has_back}
+use Rattle.flat_code.specs.Routines.Objects.StandsFor.{Views, StandsFor}
 use Rattle.metadata_plan.specs.Registers.{most_temporaries, temporary_register, first_free}
 use Rattle.metadata_plan.specs.Operators.{OperatorCode, AreOperators}
 use Rattle.metadata_plan.specs.Blocks.{call_tests, argument_moves, call_code, room_in}

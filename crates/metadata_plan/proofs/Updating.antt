@@ -36,17 +36,17 @@ use Rattle.tac_ir.specs.Stage.{Temps, with_temp, Frame, Stage, Stands, Over, cam
 use Rattle.tac_ir.specs.Temporaries.{right_count}
 use Rattle.tac_ir.specs.Costs.{spent}
 use Rattle.tac_ir.specs.Meaning.{effect, given_in, right_value}
-use Rattle.flat_meaning.specs.declared.instruction.FlatInstruction.{FlatInstruction}
-use Rattle.flat_meaning.specs.declared.instruction.FlatInstruction.TheVariants as flat_code
-use Rattle.flat_meaning.specs.declared.function.FlatProgram.{FlatProgram}
-use Rattle.flat_meaning.specs.Memory.{put}
-use Rattle.flat_meaning.specs.State as flat
-use Rattle.flat_meaning.specs.Calls.{function_in}
-use Rattle.flat_meaning.specs.Meaning.{body_of, step}
-use Rattle.flat_meaning.specs.Words.{HasWords}
-use Rattle.flat_meaning.proofs.Stored.{put_same, put_other}
-use Rattle.flat_routines.specs.Routine.{HasAt}
-use Rattle.flat_routines.specs.Objects.StandsFor.{Views}
+use Rattle.flat_code.specs.declared.instruction.FlatInstruction.{FlatInstruction}
+use Rattle.flat_code.specs.declared.instruction.FlatInstruction.TheVariants as flat_code
+use Rattle.flat_code.specs.declared.function.FlatProgram.{FlatProgram}
+use Rattle.flat_code.specs.Memory.{put}
+use Rattle.flat_code.specs.State as flat
+use Rattle.flat_code.specs.Calls.{function_in}
+use Rattle.flat_code.specs.Meaning.{body_of, step}
+use Rattle.flat_code.specs.Words.{HasWords}
+use Rattle.flat_code.proofs.Stored.{put_same, put_other}
+use Rattle.flat_code.specs.Routines.Routine.{HasAt}
+use Rattle.flat_code.specs.Routines.Objects.StandsFor.{Views}
 use Rattle.metadata_plan.specs.Registers.{all_variables, most_temporaries, variable_register, temporary_register}
 use Rattle.metadata_plan.specs.Registers.{first_free}
 use Rattle.metadata_plan.specs.Operators.{OperatorCode, AreOperators, Position, Computes, IsHere, binary_most}
@@ -58,7 +58,7 @@ use Rattle.metadata_plan.proofs.Numbers.{scaled}
 use Rattle.metadata_plan.proofs.Flat.{weight_small, Comes, then_comes, constant_comes, move_comes, words_kept}
 use Rattle.metadata_plan.proofs.Holding.{IsSet, set_by_put, holds_temporary, holds_variable, temporary_free}
 use Rattle.metadata_plan.proofs.Holding.{variable_low, variable_free}
-use Rattle.flat_routines.proofs.Steps.{has_front, has_back}
+use Rattle.flat_code.proofs.Routines.Steps.{has_front, has_back}
 use Rattle.metadata_plan.proofs.Standing.{IsNode, Result, node, computed, stays, ends, then_leads}
 use Rattle.metadata_plan.proofs.Simple.{most_small}
 

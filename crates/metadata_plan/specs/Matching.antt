@@ -11,13 +11,13 @@ use Rattle.tac_ir.specs.declared.function.CodeFunction.{CodeFunction}
 use Rattle.tac_ir.specs.declared.function.Tac.{Tac}
 use Rattle.tac_ir.specs.Stage.{Temps, Waiting, Frame, Waits, Entered, Stage, Begins, Stands, Over}
 use Rattle.tac_ir.specs.Meaning.{objects_before}
-use Rattle.flat_meaning.specs.declared.function.FlatProgram.{FlatProgram}
-use Rattle.flat_meaning.specs.Memory.{Bytes}
-use Rattle.flat_meaning.specs.State as flat
-use Rattle.flat_meaning.specs.Calls.{function_in, charged}
-use Rattle.flat_meaning.specs.Meaning.{body_of, started}
-use Rattle.flat_meaning.specs.Words.{HasWords}
-use Rattle.flat_routines.specs.Objects.StandsFor.{Views, Keys, StandsFor}
+use Rattle.flat_code.specs.declared.function.FlatProgram.{FlatProgram}
+use Rattle.flat_code.specs.Memory.{Bytes}
+use Rattle.flat_code.specs.State as flat
+use Rattle.flat_code.specs.Calls.{function_in, charged}
+use Rattle.flat_code.specs.Meaning.{body_of, started}
+use Rattle.flat_code.specs.Words.{HasWords}
+use Rattle.flat_code.specs.Routines.Objects.StandsFor.{Views, Keys, StandsFor}
 use Rattle.metadata_plan.specs.Registers.{all_variables, most_temporaries, variable_register, temporary_register}
 use Rattle.metadata_plan.specs.Part.{IsSafeFrom}
 use Rattle.metadata_plan.specs.Expanded.{Leads}

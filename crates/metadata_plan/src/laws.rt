@@ -9,12 +9,12 @@ ghost use Rattle.tac_ir.specs.declared.function.CodeFunction.{CodeFunction};
 ghost use Rattle.tac_ir.specs.declared.function.Tac.{Tac};
 ghost use Rattle.tac_ir.specs.Stage.{Stuck};
 ghost use Rattle.tac_ir.specs.Meaning.{setting_of_code, step, objects_before, first_stage, tac_meaning};
-ghost use Rattle.flat_meaning.specs.declared.function.FlatProgram.{FlatProgram};
-ghost use Rattle.flat_meaning.specs.Memory.{Bytes, AreBytes};
-ghost use Rattle.flat_meaning.specs.State.{Stuck as flat_stuck};
-ghost use Rattle.flat_meaning.specs.Meaning.{step as flat_step, started, flat_meaning};
-ghost use Rattle.flat_routines.specs.Objects.StandsFor.{Views};
-ghost use Rattle.flat_routines.specs.Objects.Start.{IsStart};
+ghost use Rattle.flat_code.specs.declared.function.FlatProgram.{FlatProgram};
+ghost use Rattle.flat_code.specs.Memory.{Bytes, AreBytes};
+ghost use Rattle.flat_code.specs.State.{Stuck as flat_stuck};
+ghost use Rattle.flat_code.specs.Meaning.{step as flat_step, started, flat_meaning};
+ghost use Rattle.flat_code.specs.Routines.Objects.StandsFor.{Views};
+ghost use Rattle.flat_code.specs.Routines.Objects.Start.{IsStart};
 ghost use Rattle.metadata_plan.specs.Operators.{OperatorCode, AreOperators};
 ghost use Rattle.metadata_plan.specs.Expanded.{IsExpanded};
 ghost use Rattle.metadata_plan.specs.Part.{IsIntegerCode};
@@ -55,7 +55,7 @@ pub fn expansions_follow_a_source()
         (c : ℕ) (a : Behaviour) → IsSource a → Follows c a (tac_meaning t budgets input) → (k : ℕ)
         → run (flat_step (setting_of_code t budgets).sizes p) k (started p memory input) ≡ flat_stuck → ⊥ }
 {
-    flat_meaning::laws::steps_begin_at_most_one_turn();
+    flat_code::laws::steps_begin_at_most_one_turn();
 }
 
 /// Blocks that are laid one behind the other, that of the last node first, with a jump where the next node is not the

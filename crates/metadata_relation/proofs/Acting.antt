@@ -25,14 +25,14 @@ use Rattle.tac_ir.specs.declared.function.CodeFunction.{CodeFunction}
 use Rattle.tac_ir.specs.Edges.{LeadsTo}
 use Rattle.tac_ir.specs.Meaning.{objects_before}
 use Rattle.tac_ir.specs.Stage.{Temps, with_temp, Frame, Waits, Entered, Stage, Stands}
-use Rattle.flat_meaning.specs.declared.function.FlatProgram.{FlatProgram}
-use Rattle.flat_meaning.specs.Memory.{Bytes}
-use Rattle.flat_meaning.specs.State as flat
-use Rattle.flat_meaning.specs.Calls.{function_in}
-use Rattle.flat_meaning.specs.Meaning.{body_of, step, weight_of}
-use Rattle.flat_meaning.specs.Words.{HasWords, IsOfWords}
-use Rattle.flat_meaning.proofs.Stored.{load_kept}
-use Rattle.flat_routines.specs.Objects.StandsFor.{Keys}
+use Rattle.flat_code.specs.declared.function.FlatProgram.{FlatProgram}
+use Rattle.flat_code.specs.Memory.{Bytes}
+use Rattle.flat_code.specs.State as flat
+use Rattle.flat_code.specs.Calls.{function_in}
+use Rattle.flat_code.specs.Meaning.{body_of, step, weight_of}
+use Rattle.flat_code.specs.Words.{HasWords, IsOfWords}
+use Rattle.flat_code.proofs.Stored.{load_kept}
+use Rattle.flat_code.specs.Routines.Objects.StandsFor.{Keys}
 use Rattle.flat_actions.specs.Actions.{IsFor}
 use Rattle.lib_wrappers.specs.AllocatingRoutines.Premises.{HaveBytes}
 use Rattle.metadata_plan.specs.Registers.{most_temporaries}
@@ -45,7 +45,8 @@ use Rattle.metadata_relation.specs.Registers.{variables_end, homes_end, temporar
 use Rattle.metadata_relation.specs.Blocks.{top_cell}
 use Rattle.metadata_relation.specs.Holding.{World, GoesOn, IsHeldAt, Holds}
 use Rattle.metadata_relation.specs.Scopes.{context_at}
-use Rattle.metadata_relation.specs.Stages.{factor, Compiled, map_of, views, names, expansion_of, IsSteady, StandsIn, world}
+use Rattle.metadata_relation.specs.Stages.{factor, Compiled, map_of, views, names, expansion_of, IsSteady, StandsIn}
+use Rattle.metadata_relation.specs.Stages.{world}
 use Rattle.metadata_relation.specs.Stages.{activation, level, IsAt, MatchesBy}
 use Rattle.metadata_relation.specs.Steps.{IsCompiled}
 use Rattle.metadata_relation.specs.Waiting.{IsEnteredAs, IsBodyAs, Layout, AllWait}

@@ -4,19 +4,19 @@ use Rattle.std.proofs.Common.{◌≡◌, ℕ, ◌+◌, ◌-◌, ◌*◌, ◌≤�
 use Rattle.std.proofs.Math.Nat.{mul_comm}
 use Rattle.behaviours.specs.Steps.{run}
 use Rattle.addr_map.specs.Places.{MapSizes}
-use Rattle.flat_meaning.specs.declared.instruction.FlatInstruction.{FlatInstruction}
-use Rattle.flat_meaning.specs.declared.function.FlatProgram.{FlatProgram}
-use Rattle.flat_meaning.specs.Calls.{function_in}
-use Rattle.flat_meaning.specs.State.{State, Values, Frame, Stands}
-use Rattle.flat_meaning.specs.Meaning.{Goes, body_of, context, weight_of, step}
-use Rattle.flat_meaning.specs.Words.{HasWords}
-use Rattle.flat_routines.specs.InputOutput.{IsWithoutInputOutput}
-use Rattle.flat_routines.specs.Laws.{work_of, report_length}
-use Rattle.flat_routines.specs.Local.{local_run}
-use Rattle.flat_routines.specs.Metadata.{ShowsNothing}
-use Rattle.flat_routines.specs.Routine.{Outcome, Continues, Halts, left_at, Does, Either, Never}
-use Rattle.flat_routines.proofs.Lifted.{lifted}
-use Rattle.flat_routines.proofs.Work.{does_its_weight}
+use Rattle.flat_code.specs.declared.instruction.FlatInstruction.{FlatInstruction}
+use Rattle.flat_code.specs.declared.function.FlatProgram.{FlatProgram}
+use Rattle.flat_code.specs.Calls.{function_in}
+use Rattle.flat_code.specs.State.{State, Values, Frame, Stands}
+use Rattle.flat_code.specs.Meaning.{Goes, body_of, context, weight_of, step}
+use Rattle.flat_code.specs.Words.{HasWords}
+use Rattle.flat_code.specs.Routines.InputOutput.{IsWithoutInputOutput}
+use Rattle.flat_code.specs.Routines.Laws.{work_of, report_length}
+use Rattle.flat_code.specs.Routines.Local.{local_run}
+use Rattle.flat_code.specs.Routines.Metadata.{ShowsNothing}
+use Rattle.flat_code.specs.Routines.Routine.{Outcome, Continues, Halts, left_at, Does, Either, Never}
+use Rattle.flat_code.proofs.Routines.Lifted.{lifted}
+use Rattle.flat_code.proofs.Routines.Work.{does_its_weight}
 use Rattle.metadata_plan.specs.Operators.{Position, IsHere}
 use Rattle.metadata_plan.proofs.Numbers.{scaled}
 use Rattle.metadata_plan.proofs.Flat.{weight_small, Comes, then_comes}

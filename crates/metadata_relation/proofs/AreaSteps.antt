@@ -18,20 +18,21 @@ use Rattle.tac_ir.specs.declared.function.Tac.{Tac}
 use Rattle.tac_ir.specs.Edges.{LeadsTo}
 use Rattle.tac_ir.specs.Stage.{Frame, Stands, Temps, with_temp}
 use Rattle.tac_ir.specs.Structures.{greatest_structure, structures_below}
-use Rattle.flat_meaning.specs.declared.instruction.FlatInstruction.{FlatInstruction}
-use Rattle.flat_meaning.specs.declared.instruction.FlatInstruction.TheVariants.{Move, Operate}
-use Rattle.flat_meaning.specs.declared.instruction.RightOperand.TheVariants.{Register}
-use Rattle.flat_meaning.specs.Calls.{charged, function_in, rooms}
-use Rattle.flat_meaning.specs.Meaning.{body_of}
-use Rattle.flat_meaning.specs.Memory.{Bytes, KeepsBut, put}
-use Rattle.flat_meaning.specs.State as flat
-use Rattle.flat_meaning.specs.Words.{HasWords}
-use Rattle.flat_meaning.proofs.Stored.{load_kept, put_other, put_same}
-use Rattle.flat_routines.specs.Routine.{HasAt}
-use Rattle.flat_routines.proofs.Steps.{has_back, has_front}
+use Rattle.flat_code.specs.declared.instruction.FlatInstruction.{FlatInstruction}
+use Rattle.flat_code.specs.declared.instruction.FlatInstruction.TheVariants.{Move, Operate}
+use Rattle.flat_code.specs.declared.instruction.RightOperand.TheVariants.{Register}
+use Rattle.flat_code.specs.Calls.{charged, function_in, rooms}
+use Rattle.flat_code.specs.Meaning.{body_of}
+use Rattle.flat_code.specs.Memory.{Bytes, KeepsBut, put}
+use Rattle.flat_code.specs.State as flat
+use Rattle.flat_code.specs.Words.{HasWords}
+use Rattle.flat_code.proofs.Stored.{load_kept, put_other, put_same}
+use Rattle.flat_code.specs.Routines.Routine.{HasAt}
+use Rattle.flat_code.proofs.Routines.Steps.{has_back, has_front}
 use Rattle.flat_actions.specs.Actions.{IsFor}
 use Rattle.flat_actions.proofs.Standing.{for_worked}
-use Rattle.lib_wrappers.specs.AreaRoutines.Areas.{area_bytes, entries_begin, HoldsPart, IsArea, IsAreaPlace, whole_words}
+use Rattle.lib_wrappers.specs.AreaRoutines.Areas.{area_bytes, entries_begin, HoldsPart, IsArea, IsAreaPlace}
+use Rattle.lib_wrappers.specs.AreaRoutines.Areas.{whole_words}
 use Rattle.runtime_functions.specs.Library.{held_from}
 use Rattle.metadata_plan.specs.Entries.{given}
 use Rattle.metadata_plan.specs.Expanded.{Leads}
@@ -40,7 +41,8 @@ use Rattle.metadata_plan.proofs.Flat.{charged_comes, move_comes, operate_comes}
 use Rattle.metadata_relation.specs.Blocks.{top_cell}
 use Rattle.metadata_relation.specs.Holding.{area_of, IsTemporary}
 use Rattle.metadata_relation.specs.Registers.{first_free, temporary_register}
-use Rattle.metadata_relation.specs.Stages.{activation, Compiled, factor, IsAt, level, map_of, MatchesBy, names, views, world}
+use Rattle.metadata_relation.specs.Stages.{activation, Compiled, factor, IsAt, level, map_of, MatchesBy, names, views}
+use Rattle.metadata_relation.specs.Stages.{world}
 use Rattle.metadata_relation.specs.Steps.{IsCompiled}
 use Rattle.metadata_relation.specs.Structures.{area_code, begin_area_code, bound_code, HasAreas, HaveAreas}
 use Rattle.metadata_relation.specs.Structures.{hold_area}

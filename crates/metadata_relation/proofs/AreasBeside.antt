@@ -12,11 +12,11 @@ use Rattle.source_meaning.specs.Blocks.{Block, has_objects}
 use Rattle.tac_ir.specs.declared.function.CodeFunction.{CodeFunction}
 use Rattle.tac_ir.specs.Stage.{Frame, Temps, Waits, Waiting, Entered}
 use Rattle.tac_ir.specs.Structures.{greatest_structure}
-use Rattle.flat_meaning.specs.declared.function.FlatFunction.{FlatFunction}
-use Rattle.flat_meaning.specs.Calls.{function_in, room_if, rooms}
-use Rattle.flat_meaning.specs.Memory.{Bytes, Keeps}
-use Rattle.flat_meaning.specs.State as flat
-use Rattle.flat_routines.specs.Objects.StandsFor.{Keys, Views}
+use Rattle.flat_code.specs.declared.function.FlatFunction.{FlatFunction}
+use Rattle.flat_code.specs.Calls.{function_in, room_if, rooms}
+use Rattle.flat_code.specs.Memory.{Bytes, Keeps}
+use Rattle.flat_code.specs.State as flat
+use Rattle.flat_code.specs.Routines.Objects.StandsFor.{Keys, Views}
 use Rattle.lib_wrappers.proofs.AreaRoutines.Areas.{area_same}
 use Rattle.metadata_relation.specs.Blocks.{objects_of_body}
 use Rattle.metadata_relation.specs.Expanded.{EntersAt}

@@ -19,16 +19,16 @@ use Rattle.source_meaning.proofs.Holding.{direct_named}
 use Rattle.source_meaning.proofs.SureStructures.{sure_write_rvalue}
 use Rattle.tac_ir.specs.Costs.{spent}
 use Rattle.tac_ir.specs.Stage.{Frame, Temps}
-use Rattle.flat_meaning.specs.declared.instruction.FlatInstruction.{FlatInstruction}
-use Rattle.flat_meaning.specs.declared.instruction.FlatInstruction.TheVariants.{Call}
-use Rattle.flat_meaning.specs.Calls.{function_in}
-use Rattle.flat_meaning.specs.Meaning.{body_of}
-use Rattle.flat_meaning.specs.Memory.{Bytes}
-use Rattle.flat_meaning.specs.State as flat
-use Rattle.flat_meaning.specs.Words.{HasWords}
-use Rattle.flat_routines.specs.Objects.StandsFor.{Keys}
-use Rattle.flat_routines.specs.Routine.{HasAt}
-use Rattle.flat_routines.proofs.Steps.{has_back, has_front}
+use Rattle.flat_code.specs.declared.instruction.FlatInstruction.{FlatInstruction}
+use Rattle.flat_code.specs.declared.instruction.FlatInstruction.TheVariants.{Call}
+use Rattle.flat_code.specs.Calls.{function_in}
+use Rattle.flat_code.specs.Meaning.{body_of}
+use Rattle.flat_code.specs.Memory.{Bytes}
+use Rattle.flat_code.specs.State as flat
+use Rattle.flat_code.specs.Words.{HasWords}
+use Rattle.flat_code.specs.Routines.Objects.StandsFor.{Keys}
+use Rattle.flat_code.specs.Routines.Routine.{HasAt}
+use Rattle.flat_code.proofs.Routines.Steps.{has_back, has_front}
 use Rattle.flat_actions.specs.Actions.{HasGiven, Nowhere, work_of}
 use Rattle.lib_wrappers.specs.AreaRoutines.Areas.{HoldsPart}
 use Rattle.lib_wrappers.specs.AreaRoutines.Values.{putting}
@@ -45,7 +45,8 @@ use Rattle.metadata_relation.specs.Scopes.{context_at}
 use Rattle.metadata_relation.specs.Stages.{Compiled, IsAt, map_of, names, views, world}
 use Rattle.metadata_relation.specs.Steps.{IsCompiled}
 use Rattle.metadata_relation.specs.Structures.{move_part, part_call_code, put_area_place}
-use Rattle.metadata_relation.proofs.Acting.{behind_action, HasActed, Reached, reached_computed, reached_next, reached_then}
+use Rattle.metadata_relation.proofs.Acting.{behind_action, HasActed, Reached, reached_computed, reached_next}
+use Rattle.metadata_relation.proofs.Acting.{reached_then}
 use Rattle.metadata_relation.proofs.Acting.{reached_words}
 use Rattle.metadata_relation.proofs.Assigning.{assigned, assigns}
 use Rattle.metadata_relation.proofs.Finishing.{acted_as, acted_then, acted_worked, nothing_done, tagged_in}

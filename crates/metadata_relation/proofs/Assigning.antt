@@ -3,17 +3,17 @@ use Rattle.std.proofs.Common.{◌≡◌, ◌≢◌, ◌⊎◌, ⊎_elim, inl, in
 use Rattle.std.proofs.Common.{◌∷◌, length, ap, ◌∙◌, arith}
 use Rattle.words.specs.TwosComplement.{low_bits}
 use Rattle.addr_map.specs.Places.{MapSizes}
-use Rattle.flat_meaning.specs.declared.instruction.FlatInstruction.{FlatInstruction}
-use Rattle.flat_meaning.specs.declared.instruction.FlatInstruction.TheVariants.{Constant, Move}
-use Rattle.flat_meaning.specs.declared.function.FlatProgram.{FlatProgram}
-use Rattle.flat_meaning.specs.Memory.{put}
-use Rattle.flat_meaning.specs.State as flat
-use Rattle.flat_meaning.specs.Calls.{function_in}
-use Rattle.flat_meaning.specs.Meaning.{body_of}
-use Rattle.flat_meaning.proofs.Stored.{put_same, put_other}
-use Rattle.flat_routines.specs.Metadata.{metadata_in, no_metadata}
-use Rattle.flat_routines.specs.Routine.{HasAt}
-use Rattle.flat_routines.proofs.Words.{same_metadata}
+use Rattle.flat_code.specs.declared.instruction.FlatInstruction.{FlatInstruction}
+use Rattle.flat_code.specs.declared.instruction.FlatInstruction.TheVariants.{Constant, Move}
+use Rattle.flat_code.specs.declared.function.FlatProgram.{FlatProgram}
+use Rattle.flat_code.specs.Memory.{put}
+use Rattle.flat_code.specs.State as flat
+use Rattle.flat_code.specs.Calls.{function_in}
+use Rattle.flat_code.specs.Meaning.{body_of}
+use Rattle.flat_code.proofs.Stored.{put_same, put_other}
+use Rattle.flat_code.specs.Routines.Metadata.{metadata_in, no_metadata}
+use Rattle.flat_code.specs.Routines.Routine.{HasAt}
+use Rattle.flat_code.proofs.Routines.Words.{same_metadata}
 use Rattle.lib_wrappers.specs.AccessRoutines.Accessing.{no_entry}
 use Rattle.runtime_functions.specs.Library.{held_from}
 use Rattle.metadata_relation.specs.Blocks.{move_value}

@@ -6,7 +6,8 @@ use Rattle.std.specs.Prelude.{slice_get, nat_le, nat_lt, not, ◌||◌, ◌&&◌
 use Rattle.std.proofs.lemmas.Bool.{and_parts, cases_lt, eqb-true, lt-leb}
 use Rattle.words.specs.TwosComplement.{low_bits}
 use Rattle.behaviours.specs.Shown.{Write}
-use Rattle.addr_map.specs.declared.region.Region.TheVariants.{Globals, Locks, Cells, Stack as StackRegion, StructureValues}
+use Rattle.addr_map.specs.declared.region.Region.TheVariants.{Globals, Locks, Cells, Stack as StackRegion}
+use Rattle.addr_map.specs.declared.region.Region.TheVariants.{StructureValues}
 use Rattle.addr_map.specs.Places.{MapSizes, region_size, region_start, region_end, spaces_begin}
 use Rattle.addr_map.proofs.Order.{ends_low}
 use Rattle.sb_base.specs.declared.ending.Ending.{Ending}
@@ -31,29 +32,30 @@ use Rattle.tac_ir.specs.Meaning.{function_in as code_in, header_of_code, begun, 
 use Rattle.tac_ir.specs.Meaning.{step as tac_step}
 use Rattle.rv_isa.specs.Results.{wrap}
 use Rattle.rv_isa.specs.declared.instruction.StoreOp.TheVariants.{Sd}
-use Rattle.flat_meaning.specs.declared.instruction.FlatInstruction.{FlatInstruction}
-use Rattle.flat_meaning.specs.declared.instruction.FlatInstruction.TheVariants as flat_code
-use Rattle.flat_meaning.specs.declared.function.FlatFunction.{FlatFunction}
-use Rattle.flat_meaning.specs.declared.function.FlatProgram.{FlatProgram}
-use Rattle.flat_meaning.specs.Memory.{Bytes, put, store}
-use Rattle.flat_meaning.specs.Spaces.{is_of_objects, is_allowed}
-use Rattle.flat_meaning.specs.State as flat
-use Rattle.flat_meaning.specs.Calls.{function_in, charged}
-use Rattle.flat_meaning.specs.Words.{HasWords}
-use Rattle.flat_meaning.specs.Meaning.{Goes, Fails, body_of, started, weight_of, is_runtime_function, goes_to}
-use Rattle.flat_meaning.proofs.Stored.{put_same, put_other, store_beside, load_stored}
-use Rattle.flat_routines.specs.Objects.StandsFor.{StandsFor, global_lock}
-use Rattle.flat_routines.specs.Objects.Start.{start_keys}
-use Rattle.flat_routines.specs.Routine.{HasAt}
-use Rattle.flat_routines.proofs.Steps.{has_front, has_back}
-use Rattle.flat_routines.proofs.Words.{IsLocal}
+use Rattle.flat_code.specs.declared.instruction.FlatInstruction.{FlatInstruction}
+use Rattle.flat_code.specs.declared.instruction.FlatInstruction.TheVariants as flat_code
+use Rattle.flat_code.specs.declared.function.FlatFunction.{FlatFunction}
+use Rattle.flat_code.specs.declared.function.FlatProgram.{FlatProgram}
+use Rattle.flat_code.specs.Memory.{Bytes, put, store}
+use Rattle.flat_code.specs.Spaces.{is_of_objects, is_allowed}
+use Rattle.flat_code.specs.State as flat
+use Rattle.flat_code.specs.Calls.{function_in, charged}
+use Rattle.flat_code.specs.Words.{HasWords}
+use Rattle.flat_code.specs.Meaning.{Goes, Fails, body_of, started, weight_of, is_runtime_function, goes_to}
+use Rattle.flat_code.proofs.Stored.{put_same, put_other, store_beside, load_stored}
+use Rattle.flat_code.specs.Routines.Objects.StandsFor.{StandsFor, global_lock}
+use Rattle.flat_code.specs.Routines.Objects.Start.{start_keys}
+use Rattle.flat_code.specs.Routines.Routine.{HasAt}
+use Rattle.flat_code.proofs.Routines.Steps.{has_front, has_back}
+use Rattle.flat_code.proofs.Routines.Words.{IsLocal}
 use Rattle.lock_space.proofs.Spaces.{allowed_at}
 use Rattle.flat_actions.specs.Actions.{AreSpacesGood}
 use Rattle.lib_wrappers.proofs.AreaRoutines.Behind.{spaces_kept, stands_kept}
 use Rattle.metadata_plan.specs.Blocks.{call_tests}
 use Rattle.metadata_plan.proofs.Calling.{tested, tests_pass, tests_end}
 use Rattle.metadata_plan.proofs.Entering.{no_rooms}
-use Rattle.metadata_plan.proofs.Flat.{at_place, Comes, constant_comes, next_comes, one, then_comes, turn_comes, weight_small}
+use Rattle.metadata_plan.proofs.Flat.{at_place, Comes, constant_comes, next_comes, one, then_comes, turn_comes}
+use Rattle.metadata_plan.proofs.Flat.{weight_small}
 use Rattle.metadata_plan.proofs.Flat.{words_kept}
 use Rattle.metadata_plan.proofs.SetUp.{exhausted}
 use Rattle.metadata_relation.specs.Blocks.{objects_of_body, start_code, main_tests, before_main}
@@ -65,7 +67,8 @@ use Rattle.metadata_relation.specs.Steps.{IsCompiled, is_scalar_call, is_scalar_
 use Rattle.metadata_relation.proofs.CallStates.{entered_from, fresh_good}
 use Rattle.metadata_relation.proofs.Calls.{spare_or}
 use Rattle.metadata_relation.proofs.EnteredBodies.{enters}
-use Rattle.metadata_relation.proofs.Entering.{call_stage, earlier, entry_there, EntryIsThere, few_parameters, IsScalarCall}
+use Rattle.metadata_relation.proofs.Entering.{call_stage, earlier, entry_there, EntryIsThere, few_parameters}
+use Rattle.metadata_relation.proofs.Entering.{IsScalarCall}
 use Rattle.metadata_relation.proofs.Entering.{scalar_call}
 use Rattle.source_meaning.proofs.Holding.{live_made}
 use Rattle.metadata_relation.proofs.Statics.{placed_count, placed_static}

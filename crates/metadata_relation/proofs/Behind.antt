@@ -4,13 +4,13 @@ use Rattle.addr_map.specs.declared.region.Region.TheVariants.{Locks, Blocks, Str
 use Rattle.addr_map.specs.Places.{AreMapped, MapSizes, region_start, spaces_begin}
 use Rattle.obj_memory.specs.Objects.{Objects, object_at}
 use Rattle.source_meaning.specs.State.{State as Source}
-use Rattle.flat_meaning.specs.Memory.{Bytes, load}
-use Rattle.flat_meaning.specs.State.{State}
-use Rattle.flat_routines.specs.Metadata.{KeepsShadow, ShowsNothing, View}
-use Rattle.flat_routines.specs.Objects.StandsFor.{IsLock, IsTable, Keys, StandsFor}
-use Rattle.flat_routines.proofs.Objects.Changing.{global_is_lock, live_is_made, word_of}
-use Rattle.flat_routines.proofs.Regions.{laid_out, spaces_follow}
-use Rattle.flat_routines.proofs.Words.{IsLocal}
+use Rattle.flat_code.specs.Memory.{Bytes, load}
+use Rattle.flat_code.specs.State.{State}
+use Rattle.flat_code.specs.Routines.Metadata.{KeepsShadow, ShowsNothing, View}
+use Rattle.flat_code.specs.Routines.Objects.StandsFor.{IsLock, IsTable, Keys, StandsFor}
+use Rattle.flat_code.proofs.Routines.Objects.Changing.{global_is_lock, live_is_made, word_of}
+use Rattle.flat_code.proofs.Routines.Regions.{laid_out, spaces_follow}
+use Rattle.flat_code.proofs.Routines.Words.{IsLocal}
 use Rattle.lock_space.specs.Locks.{KeepsLocks}
 use Rattle.lock_space.proofs.Local.{counter_kept, good_kept as locks_kept, lock_kept}
 use Rattle.lock_space.proofs.Spaces.{locks_laid_out}

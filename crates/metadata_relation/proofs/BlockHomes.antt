@@ -1,5 +1,6 @@
 -- The homes of a block that is entered: where the source places its objects, registers have their entries.
-use Rattle.std.proofs.Common.{◌≡◌, ◌≢◌, ◌⊎◌, ⊎_elim, inl, inr, ℕ, zero, suc, ◌+◌, ◌*◌, ◌%◌, ◌<◌, ◌≤◌, Bool, true, false, not, ◌||◌}
+use Rattle.std.proofs.Common.{◌≡◌, ◌≢◌, ◌⊎◌, ⊎_elim, inl, inr, ℕ, zero, suc, ◌+◌, ◌*◌, ◌%◌, ◌<◌, ◌≤◌, Bool, true, false}
+use Rattle.std.proofs.Common.{not, ◌||◌}
 use Rattle.std.proofs.Common.{List, [], ◌∷◌, length, get_or, if◌then◌else◌, refl, sym, ap, ◌∙◌, subst, arith}
 use Rattle.std.specs.Prelude.{nat_le}
 use Rattle.std.proofs.lemmas.Bool.{and_parts, cases_lt, leb-true}
@@ -16,11 +17,11 @@ use Rattle.source_meaning.specs.Blocks.{has_objects, homes_over, over}
 use Rattle.source_meaning.specs.State.{Home, NoObject, InObject}
 use Rattle.source_meaning.proofs.Holding.{length-new}
 use Rattle.tac_ir.specs.declared.function.CodeFunction.{CodeFunction}
-use Rattle.flat_meaning.specs.declared.function.FlatProgram.{FlatProgram}
-use Rattle.flat_meaning.specs.State as flat
-use Rattle.flat_routines.specs.Metadata.{metadata_in}
-use Rattle.flat_routines.specs.Objects.StandsFor.{Holding, Keys, spell, Views}
-use Rattle.flat_routines.proofs.Words.{same_metadata}
+use Rattle.flat_code.specs.declared.function.FlatProgram.{FlatProgram}
+use Rattle.flat_code.specs.State as flat
+use Rattle.flat_code.specs.Routines.Metadata.{metadata_in}
+use Rattle.flat_code.specs.Routines.Objects.StandsFor.{Holding, Keys, spell, Views}
+use Rattle.flat_code.proofs.Routines.Words.{same_metadata}
 use Rattle.lib_wrappers.specs.AllocatingRoutines.Entering.{AreSized}
 use Rattle.lib_wrappers.specs.AllocatingRoutines.Premises.{HaveBytes}
 use Rattle.lib_wrappers.proofs.AllocatingRoutines.KeptBytes.{bytes_new}

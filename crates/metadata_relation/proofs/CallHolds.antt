@@ -18,11 +18,11 @@ use Rattle.tac_ir.specs.declared.function.CodeFunction.{CodeFunction}
 use Rattle.tac_ir.specs.declared.function.Tac.{Tac}
 use Rattle.tac_ir.specs.Meaning.{header_of_code}
 use Rattle.tac_ir.specs.Stage.{Temps, no_temps}
-use Rattle.flat_meaning.specs.Memory.{Bytes}
-use Rattle.flat_meaning.specs.State as flat
-use Rattle.flat_routines.specs.Metadata.{metadata_in, no_metadata}
-use Rattle.flat_routines.specs.Objects.StandsFor.{Views, Keys}
-use Rattle.flat_routines.proofs.Words.{same_metadata}
+use Rattle.flat_code.specs.Memory.{Bytes}
+use Rattle.flat_code.specs.State as flat
+use Rattle.flat_code.specs.Routines.Metadata.{metadata_in, no_metadata}
+use Rattle.flat_code.specs.Routines.Objects.StandsFor.{Views, Keys}
+use Rattle.flat_code.proofs.Routines.Words.{same_metadata}
 use Rattle.lib_wrappers.specs.AllocatingRoutines.Entering.{IsHomeOf}
 use Rattle.runtime_functions.specs.Library.{held_from}
 use Rattle.metadata_plan.specs.Part.{have_no_objects}

@@ -19,7 +19,7 @@ use Rattle.source_meaning.proofs.ValidProgramNames.{valid_names}
 use Rattle.tac_ir.specs.declared.function.CodeFunction.{CodeFunction}
 use Rattle.tac_ir.specs.Meaning.{header_of_code, function_in, variables_in, objects_before}
 use Rattle.tac_ir.specs.Stage.{Frame}
-use Rattle.flat_meaning.specs.Memory.{Bytes}
+use Rattle.flat_code.specs.Memory.{Bytes}
 use Rattle.metadata_relation.specs.Scopes.{Names, scope_of, base_of, variables_at, context_at}
 use Rattle.metadata_relation.specs.Stages.{Compiled, map_of, names}
 use Rattle.metadata_relation.specs.Steps.{IsCompiled}

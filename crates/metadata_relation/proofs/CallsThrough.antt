@@ -1,6 +1,7 @@
 -- Calls through pointers: the callee is tested, and called as by name.
 use Rattle.std.proofs.Common.{◌≡◌, ⊎_elim, inl, ℕ, ◌+◌, ◌-◌, ◌*◌, ◌^◌, ◌<◌, ◌≤◌, Bool, true, false, List}
-use Rattle.std.proofs.Common.{[], ◌∷◌, ◌++◌, length, length-append, map, Option, Some, None, refl, sym, ap, ◌∙◌, subst, arith}
+use Rattle.std.proofs.Common.{[], ◌∷◌, ◌++◌, length, length-append, map, Option, Some, None, refl, sym, ap, ◌∙◌, subst}
+use Rattle.std.proofs.Common.{arith}
 use Rattle.std.proofs.Common.{get_or, le-leb}
 use Rattle.std.specs.Prelude.{slice_get, nat_le, nat_lt, not, ◌||◌, min, ◌==◌, ◌&&◌, ◌/◌, ◌%◌, if◌then◌else◌}
 use Rattle.std.proofs.Math.Nat.{le-min, min-le_left}
@@ -28,16 +29,16 @@ use Rattle.tac_ir.specs.Fitting.{are_passed, taken_by}
 use Rattle.tac_ir.specs.Stage.{Temps, no_temps, gathered, Waiting, Frame, Waits, Stage, Stands, Over, came}
 use Rattle.tac_ir.specs.Costs.{spent, fourfold}
 use Rattle.tac_ir.specs.Meaning.{function_in as code_in, header_of_code, begun, called_at, effect}
-use Rattle.flat_meaning.specs.declared.instruction.FlatInstruction.{FlatInstruction}
-use Rattle.flat_meaning.specs.declared.instruction.FlatInstruction.TheVariants as flat_code
-use Rattle.flat_meaning.specs.declared.function.FlatProgram.{FlatProgram}
-use Rattle.flat_meaning.specs.Memory.{Bytes}
-use Rattle.flat_meaning.specs.State as flat
-use Rattle.flat_meaning.specs.Calls.{function_in, charged}
-use Rattle.flat_meaning.specs.Meaning.{body_of}
-use Rattle.flat_meaning.specs.Words.{HasWords}
-use Rattle.flat_routines.specs.Routine.{HasAt}
-use Rattle.flat_routines.proofs.Steps.{has_front, has_back}
+use Rattle.flat_code.specs.declared.instruction.FlatInstruction.{FlatInstruction}
+use Rattle.flat_code.specs.declared.instruction.FlatInstruction.TheVariants as flat_code
+use Rattle.flat_code.specs.declared.function.FlatProgram.{FlatProgram}
+use Rattle.flat_code.specs.Memory.{Bytes}
+use Rattle.flat_code.specs.State as flat
+use Rattle.flat_code.specs.Calls.{function_in, charged}
+use Rattle.flat_code.specs.Meaning.{body_of}
+use Rattle.flat_code.specs.Words.{HasWords}
+use Rattle.flat_code.specs.Routines.Routine.{HasAt}
+use Rattle.flat_code.proofs.Routines.Steps.{has_front, has_back}
 use Rattle.lib_wrappers.specs.AllocatingRoutines.Entering.{block_bytes}
 use Rattle.lib_wrappers.proofs.AllocatingRoutines.SourceEntries.{some_bytes}
 use Rattle.metadata_plan.specs.Registers.{most_temporaries}
@@ -66,18 +67,19 @@ use Rattle.obj_memory.specs.declared.value.Tag.{Tag}
 use Rattle.obj_memory.specs.declared.value.Tag.TheVariants.{OfFunction}
 use Rattle.obj_memory.specs.Objects.{object_at}
 use Rattle.obj_memory.specs.Heap.{rounded_up}
-use Rattle.flat_meaning.specs.declared.function.FlatFunction.{FlatFunction}
+use Rattle.flat_code.specs.declared.function.FlatFunction.{FlatFunction}
 use Rattle.source_meaning.specs.Expressions.{callee_by, has_type, header_at}
 use Rattle.source_meaning.specs.State.{Ended}
 use Rattle.tac_ir.specs.Fitting.{fit_type}
 use Rattle.tac_ir.specs.Meaning.{called}
-use Rattle.flat_meaning.specs.Calls.{function_at, is_of_program}
-use Rattle.flat_meaning.specs.Meaning.{at_instruction, enters as enters_flat, enters_at, instruction_at, parameters_of}
-use Rattle.flat_meaning.specs.Meaning.{results_of, step}
-use Rattle.flat_routines.specs.Objects.StandsFor.{Spells, spell}
+use Rattle.flat_code.specs.Calls.{function_at, is_of_program}
+use Rattle.flat_code.specs.Meaning.{at_instruction, enters as enters_flat, enters_at, instruction_at, parameters_of}
+use Rattle.flat_code.specs.Meaning.{results_of, step}
+use Rattle.flat_code.specs.Routines.Objects.StandsFor.{Spells, spell}
 use Rattle.runtime_functions.specs.Library.{Passed, held_from}
 use Rattle.metadata_plan.specs.Entries.{given}
-use Rattle.metadata_relation.specs.Blocks.{Expansion, callee_tests, room_tests, unknown_object_tests, through_code, through_of}
+use Rattle.metadata_relation.specs.Blocks.{Expansion, callee_tests, room_tests, unknown_object_tests, through_code}
+use Rattle.metadata_relation.specs.Blocks.{through_of}
 use Rattle.metadata_relation.specs.Expanded.{ExpandsAt}
 use Rattle.metadata_relation.specs.FunctionTypes.{first_of_type, object_units, room_told, type_key_of}
 use Rattle.metadata_relation.specs.Registers.{area_words, result_words}
@@ -85,9 +87,11 @@ use Rattle.metadata_relation.specs.Steps.{are_scalar_calls, are_sized}
 use Rattle.metadata_relation.proofs.CalleeTests as callee_run
 use Rattle.metadata_relation.proofs.Handing as handing
 use Rattle.metadata_relation.proofs.Handing.{held_at}
-use Rattle.metadata_relation.proofs.FunctionTypes.{is_callee, FindsBy, finds, none_found, first_typed, none_typed, type_at}
+use Rattle.metadata_relation.proofs.FunctionTypes.{is_callee, FindsBy, finds, none_found, first_typed, none_typed}
+use Rattle.metadata_relation.proofs.FunctionTypes.{type_at}
 use Rattle.metadata_relation.proofs.FunctionTypes.{units_told, room_told_by}
-use Rattle.metadata_relation.proofs.FunctionsOfType.{there_at, plain_at, passed_to, take_alike, headers_are, kind_low, inside_list}
+use Rattle.metadata_relation.proofs.FunctionsOfType.{there_at, plain_at, passed_to, take_alike, headers_are, kind_low}
+use Rattle.metadata_relation.proofs.FunctionsOfType.{inside_list}
 use Rattle.metadata_relation.proofs.FunctionsOfType.{units_low, room_low, key_is, kind_tells, code_count}
 use Rattle.metadata_relation.proofs.BlockHomes.{sized_by}
 use Rattle.metadata_relation.proofs.Calls.{spare_or}

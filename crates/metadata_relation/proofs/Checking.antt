@@ -36,20 +36,20 @@ use Rattle.tac_ir.specs.Meaning.{check, effect, fits, keyed_by, keys_of, variabl
 use Rattle.c_tree.specs.declared.program.Variable.{Variable}
 use Rattle.tac_ir.specs.Stage.{came, Frame, Over, Stage, Stands, Stuck, Temps}
 use Rattle.tac_ir.proofs.Fits.{only_true}
-use Rattle.flat_meaning.specs.declared.instruction.FlatInstruction.{FlatInstruction}
-use Rattle.flat_meaning.specs.declared.instruction.RightOperand.TheVariants.{Register, Number}
-use Rattle.flat_meaning.specs.Calls.{charged, function_in}
-use Rattle.flat_meaning.specs.Meaning.{body_of, context, is_runtime_function, right_value, step, weight_of}
-use Rattle.flat_meaning.specs.Memory.{Bytes}
-use Rattle.flat_meaning.specs.State as flat
-use Rattle.flat_meaning.specs.Words.{HasWords, IsOfWords}
-use Rattle.flat_routines.specs.InputOutput.{IsWithoutInputOutput}
-use Rattle.flat_routines.specs.Metadata.{held_registers, metadata_in}
-use Rattle.flat_routines.specs.Objects.StandsFor.{Spells}
-use Rattle.flat_routines.specs.Registers.{AreBelow}
-use Rattle.flat_routines.specs.Routine.{Does, HasAt}
-use Rattle.flat_routines.proofs.Steps.{has_back, has_front}
-use Rattle.flat_routines.proofs.Words.{same_metadata}
+use Rattle.flat_code.specs.declared.instruction.FlatInstruction.{FlatInstruction}
+use Rattle.flat_code.specs.declared.instruction.RightOperand.TheVariants.{Register, Number}
+use Rattle.flat_code.specs.Calls.{charged, function_in}
+use Rattle.flat_code.specs.Meaning.{body_of, context, is_runtime_function, right_value, step, weight_of}
+use Rattle.flat_code.specs.Memory.{Bytes}
+use Rattle.flat_code.specs.State as flat
+use Rattle.flat_code.specs.Words.{HasWords, IsOfWords}
+use Rattle.flat_code.specs.Routines.InputOutput.{IsWithoutInputOutput}
+use Rattle.flat_code.specs.Routines.Metadata.{held_registers, metadata_in}
+use Rattle.flat_code.specs.Routines.Objects.StandsFor.{Spells}
+use Rattle.flat_code.specs.Routines.Registers.{AreBelow}
+use Rattle.flat_code.specs.Routines.Routine.{Does, HasAt}
+use Rattle.flat_code.proofs.Routines.Steps.{has_back, has_front}
+use Rattle.flat_code.proofs.Routines.Words.{same_metadata}
 use Rattle.flat_actions.specs.Judgement.Judging.{IsSameBut}
 use Rattle.flat_actions.specs.Judgement.Testing.{IsTested, IsToTest}
 use Rattle.flat_actions.proofs.Standing.{for_still, for_worked, shown_still}
@@ -64,7 +64,8 @@ use Rattle.metadata_relation.specs.Registers.{first_free, temporary_register}
 use Rattle.metadata_relation.specs.Scopes.{context_at}
 use Rattle.metadata_relation.specs.Stages.{Compiled, expansion_of, factor, IsAt, map_of, names, views, world}
 use Rattle.metadata_relation.specs.Steps.{IsCompiled}
-use Rattle.metadata_relation.proofs.Acting.{acts_alone, HasActed, Reached, reached_by, reached_here, reached_on, reached_then}
+use Rattle.metadata_relation.proofs.Acting.{acts_alone, HasActed, Reached, reached_by, reached_here, reached_on}
+use Rattle.metadata_relation.proofs.Acting.{reached_then}
 use Rattle.metadata_relation.proofs.Acting.{reached_words}
 use Rattle.metadata_relation.proofs.Acting.{stands_on}
 use Rattle.metadata_relation.proofs.FiveRegisters.{below}

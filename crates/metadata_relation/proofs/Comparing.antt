@@ -19,17 +19,17 @@ use Rattle.tac_ir.specs.Costs.{spent}
 use Rattle.rv_isa.specs.declared.instruction.RegOp.TheVariants.{Sub}
 use Rattle.rv_isa.specs.declared.instruction.BranchOp.TheVariants.{Bltu}
 use Rattle.rv_isa.specs.Results.{branch_taken, reg_result}
-use Rattle.flat_meaning.specs.declared.instruction.RightOperand.TheVariants.{Register, Number}
-use Rattle.flat_meaning.specs.declared.instruction.FlatInstruction.{FlatInstruction}
-use Rattle.flat_meaning.specs.declared.instruction.FlatInstruction.TheVariants.{Operate, Branch, End}
-use Rattle.flat_meaning.specs.Memory.{Bytes, put}
-use Rattle.flat_meaning.specs.State as flat
-use Rattle.flat_meaning.specs.Calls.{function_in}
-use Rattle.flat_meaning.specs.Meaning.{body_of, instruction_at}
-use Rattle.flat_meaning.specs.Words.{IsOfWords}
-use Rattle.flat_meaning.proofs.Stored.{put_same, put_other}
-use Rattle.flat_routines.specs.Routine.{HasAt}
-use Rattle.flat_routines.proofs.Steps.{has_front, has_back}
+use Rattle.flat_code.specs.declared.instruction.RightOperand.TheVariants.{Register, Number}
+use Rattle.flat_code.specs.declared.instruction.FlatInstruction.{FlatInstruction}
+use Rattle.flat_code.specs.declared.instruction.FlatInstruction.TheVariants.{Operate, Branch, End}
+use Rattle.flat_code.specs.Memory.{Bytes, put}
+use Rattle.flat_code.specs.State as flat
+use Rattle.flat_code.specs.Calls.{function_in}
+use Rattle.flat_code.specs.Meaning.{body_of, instruction_at}
+use Rattle.flat_code.specs.Words.{IsOfWords}
+use Rattle.flat_code.proofs.Stored.{put_same, put_other}
+use Rattle.flat_code.specs.Routines.Routine.{HasAt}
+use Rattle.flat_code.proofs.Routines.Steps.{has_front, has_back}
 use Rattle.metadata_plan.specs.Registers.{most_temporaries}
 use Rattle.metadata_plan.specs.Entries.{given}
 use Rattle.metadata_plan.specs.Expanded.{Leads}

@@ -10,15 +10,15 @@ use Rattle.tac_ir.specs.Costs.{spent}
 use Rattle.tac_ir.specs.Meaning.{effect}
 use Rattle.source_meaning.specs.Actions.{integer}
 use Rattle.source_meaning.specs.Structures.{rvalue}
-use Rattle.flat_meaning.specs.Memory.{Bytes}
-use Rattle.flat_meaning.specs.State as flat
-use Rattle.flat_meaning.specs.Calls.{function_in}
-use Rattle.flat_meaning.specs.Meaning.{body_of, context}
-use Rattle.flat_meaning.specs.Words.{IsOfWords}
+use Rattle.flat_code.specs.Memory.{Bytes}
+use Rattle.flat_code.specs.State as flat
+use Rattle.flat_code.specs.Calls.{function_in}
+use Rattle.flat_code.specs.Meaning.{body_of, context}
+use Rattle.flat_code.specs.Words.{IsOfWords}
 use Rattle.flat_operators.specs.Pointers.{elements_between}
 use Rattle.flat_operators.specs.Results.{Anywhere, AreOperands, IsResult}
-use Rattle.flat_routines.specs.Routine.{Does}
-use Rattle.flat_routines.proofs.Steps.{has_front}
+use Rattle.flat_code.specs.Routines.Routine.{Does}
+use Rattle.flat_code.proofs.Routines.Steps.{has_front}
 use Rattle.metadata_plan.specs.Registers.{most_temporaries}
 use Rattle.metadata_relation.specs.Registers.{temporary_register, first_free}
 use Rattle.metadata_relation.specs.Blocks.{untagged}

@@ -25,13 +25,13 @@ use Rattle.tac_ir.specs.Fitting.{have_no_homes, is_word}
 use Rattle.tac_ir.specs.Meaning.{blocks_in, effect, fits, function_in as code_in, if_there, objects_before}
 use Rattle.tac_ir.specs.Meaning.{objects_in, variables_in}
 use Rattle.tac_ir.specs.Stage.{came, Entered, Frame, Over, Stage, Stands, Temps}
-use Rattle.flat_meaning.specs.declared.instruction.FlatInstruction.{FlatInstruction}
-use Rattle.flat_meaning.specs.Calls.{function_in}
-use Rattle.flat_meaning.specs.Meaning.{body_of, step}
-use Rattle.flat_meaning.specs.Memory.{Bytes}
-use Rattle.flat_meaning.specs.State as flat
-use Rattle.flat_meaning.specs.Words.{HasWords}
-use Rattle.flat_routines.proofs.Steps.{has_front}
+use Rattle.flat_code.specs.declared.instruction.FlatInstruction.{FlatInstruction}
+use Rattle.flat_code.specs.Calls.{function_in}
+use Rattle.flat_code.specs.Meaning.{body_of, step}
+use Rattle.flat_code.specs.Memory.{Bytes}
+use Rattle.flat_code.specs.State as flat
+use Rattle.flat_code.specs.Words.{HasWords}
+use Rattle.flat_code.proofs.Routines.Steps.{has_front}
 use Rattle.flat_actions.proofs.Standing.{for_worked}
 use Rattle.lib_wrappers.specs.AllocatingRoutines.Entering.{AreSized, block_bytes}
 use Rattle.lib_wrappers.proofs.AllocatingRoutines.SourceEntries.{block_of, entered_in, enters_block}
@@ -62,7 +62,8 @@ use Rattle.metadata_relation.proofs.Standing.{ends, good_now, good_then, IsNode,
 use Rattle.metadata_relation.proofs.Standing.{none_less, none_more, Result}
 use Rattle.metadata_relation.proofs.Statuses.{status_ends}
 use Rattle.metadata_relation.proofs.Waiting.{lock_same, waits_by}
-use Rattle.metadata_relation.proofs.MadeObjects.{at_call, bound_of, call_site, calls_has, HaveMade, home_list, IsAtEnter, IsToMake}
+use Rattle.metadata_relation.proofs.MadeObjects.{at_call, bound_of, call_site, calls_has, HaveMade, home_list}
+use Rattle.metadata_relation.proofs.MadeObjects.{IsAtEnter, IsToMake}
 use Rattle.metadata_relation.proofs.MadeObjects.{objects_made, served, Serves, statuses, to_call, writes}
 use Rattle.metadata_relation.specs.Blocks.{enter_code}
 use Rattle.lib_wrappers.proofs.AllocatingRoutines.SourceEntries.{placing_work}

@@ -1,7 +1,8 @@
 -- A function is entered whose body has objects: they are made, parameters that are objects are stored, and the run comes
 -- to the function's first node.
 use Rattle.std.proofs.Common.{◌≡◌, ℕ, zero, suc, ◌+◌, ◌-◌, ◌*◌, ◌^◌, ◌<◌, ◌≤◌, Bool, true, false}
-use Rattle.std.proofs.Common.{List, [], ◌∷◌, ◌++◌, length, length-append, map, get_or, Some, refl, sym, ap, ◌∙◌, subst, arith}
+use Rattle.std.proofs.Common.{List, [], ◌∷◌, ◌++◌, length, length-append, map, get_or, Some, refl, sym, ap, ◌∙◌, subst}
+use Rattle.std.proofs.Common.{arith}
 use Rattle.std.specs.Prelude.{slice_get, nat_le, nat_lt, if◌then◌else◌}
 use Rattle.std.proofs.lemmas.Bool.{and_parts, le-leb, ltb-true}
 use Rattle.behaviours.specs.Steps.{run}
@@ -15,7 +16,8 @@ use Rattle.c_tree.specs.Blocks.{block_variables, closed, opened}
 use Rattle.source_meaning.specs.State.{Gives as GivesRun, Header, InObject, NoObject, on, Rvalue, Setting, State}
 use Rattle.source_meaning.specs.Actions.{integer}
 use Rattle.source_meaning.specs.Blocks.{has_objects, objects_end}
-use Rattle.source_meaning.specs.Calls.{body_objects, parameter_count, plain_count, plain_values, set_up, write_parameters}
+use Rattle.source_meaning.specs.Calls.{body_objects, parameter_count, plain_count, plain_values, set_up}
+use Rattle.source_meaning.specs.Calls.{write_parameters}
 use Rattle.source_meaning.specs.Good.{EndsMade, IsSetUp}
 use Rattle.source_meaning.specs.Places.{stack_end, stack_first}
 use Rattle.source_meaning.specs.Structures.{rvalue}
@@ -24,16 +26,16 @@ use Rattle.tac_ir.specs.declared.function.CodeFunction.{CodeFunction}
 use Rattle.tac_ir.specs.Costs.{fourfold, spent}
 use Rattle.tac_ir.specs.Meaning.{begun, header_of_code, objects_before}
 use Rattle.tac_ir.specs.Stage.{came, Frame, no_temps, Stage, Stands}
-use Rattle.flat_meaning.specs.declared.instruction.FlatInstruction.{FlatInstruction}
-use Rattle.flat_meaning.specs.declared.function.FlatProgram.{FlatProgram}
-use Rattle.flat_meaning.specs.Calls.{arguments, function_in}
-use Rattle.flat_meaning.specs.Meaning.{body_of, step}
-use Rattle.flat_meaning.specs.Memory.{Bytes}
-use Rattle.flat_meaning.specs.State as flat
-use Rattle.flat_meaning.specs.Words.{HasWords}
-use Rattle.flat_routines.specs.Objects.StandsFor.{Keys}
-use Rattle.flat_routines.specs.Routine.{HasAt}
-use Rattle.flat_routines.proofs.Steps.{has_back, has_front}
+use Rattle.flat_code.specs.declared.instruction.FlatInstruction.{FlatInstruction}
+use Rattle.flat_code.specs.declared.function.FlatProgram.{FlatProgram}
+use Rattle.flat_code.specs.Calls.{arguments, function_in}
+use Rattle.flat_code.specs.Meaning.{body_of, step}
+use Rattle.flat_code.specs.Memory.{Bytes}
+use Rattle.flat_code.specs.State as flat
+use Rattle.flat_code.specs.Words.{HasWords}
+use Rattle.flat_code.specs.Routines.Objects.StandsFor.{Keys}
+use Rattle.flat_code.specs.Routines.Routine.{HasAt}
+use Rattle.flat_code.proofs.Routines.Steps.{has_back, has_front}
 use Rattle.flat_actions.proofs.Standing.{for_worked}
 use Rattle.lib_wrappers.specs.AllocatingRoutines.Entering.{AreSized, block_bytes}
 use Rattle.lib_wrappers.proofs.AllocatingRoutines.SourceEntries.{entered_in, home_between, homes_from, object_count}

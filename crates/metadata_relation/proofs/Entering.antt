@@ -1,7 +1,8 @@
 -- A function is called: from where its arguments stand packed the run comes to where its variables are set, and, if its
 -- body has no objects, to its first node.
 use Rattle.std.proofs.Common.{◌≡◌, ℕ, ◌+◌, ◌-◌, ◌*◌, ◌<◌, ◌≤◌, Bool, true, false, List}
-use Rattle.std.proofs.Common.{[], ◌∷◌, ◌++◌, length, length-append, Option, Some, None, refl, sym, ap, ◌∙◌, subst, arith}
+use Rattle.std.proofs.Common.{[], ◌∷◌, ◌++◌, length, length-append, Option, Some, None, refl, sym, ap, ◌∙◌, subst}
+use Rattle.std.proofs.Common.{arith}
 use Rattle.std.proofs.Common.{get_or, le-leb, map}
 use Rattle.std.specs.Prelude.{slice_get, nat_le, nat_lt, ◌&&◌, ◌||◌, not, ◌==◌, if◌then◌else◌}
 use Rattle.std.proofs.lemmas.Bool.{and_parts, and_from, eq-eqb}
@@ -24,18 +25,18 @@ use Rattle.tac_ir.specs.declared.function.CodeFunction.{CodeFunction}
 use Rattle.tac_ir.specs.Stage.{no_temps, Frame, Stage, Stands, came}
 use Rattle.tac_ir.specs.Costs.{spent, fourfold, heavier}
 use Rattle.tac_ir.specs.Meaning.{header_of_code, begun}
-use Rattle.flat_meaning.specs.declared.instruction.FlatInstruction.{FlatInstruction}
-use Rattle.flat_meaning.specs.declared.instruction.FlatInstruction.TheVariants as flat_code
-use Rattle.flat_meaning.specs.declared.function.FlatFunction.{FlatFunction}
-use Rattle.flat_meaning.specs.declared.function.FlatProgram.{FlatProgram}
-use Rattle.flat_meaning.specs.Memory.{Bytes}
-use Rattle.flat_meaning.specs.State as flat
-use Rattle.flat_meaning.specs.Calls.{function_in, room_if, rooms, charged, arguments}
-use Rattle.flat_meaning.specs.Meaning.{at_instruction, body_of, enters as enters_flat, has_room, parameters_of}
-use Rattle.flat_meaning.specs.Meaning.{results_of, step}
-use Rattle.flat_routines.specs.Objects.StandsFor.{Keys}
-use Rattle.flat_routines.specs.Routine.{HasAt}
-use Rattle.flat_routines.proofs.Steps.{has_front, has_self}
+use Rattle.flat_code.specs.declared.instruction.FlatInstruction.{FlatInstruction}
+use Rattle.flat_code.specs.declared.instruction.FlatInstruction.TheVariants as flat_code
+use Rattle.flat_code.specs.declared.function.FlatFunction.{FlatFunction}
+use Rattle.flat_code.specs.declared.function.FlatProgram.{FlatProgram}
+use Rattle.flat_code.specs.Memory.{Bytes}
+use Rattle.flat_code.specs.State as flat
+use Rattle.flat_code.specs.Calls.{function_in, room_if, rooms, charged, arguments}
+use Rattle.flat_code.specs.Meaning.{at_instruction, body_of, enters as enters_flat, has_room, parameters_of}
+use Rattle.flat_code.specs.Meaning.{results_of, step}
+use Rattle.flat_code.specs.Routines.Objects.StandsFor.{Keys}
+use Rattle.flat_code.specs.Routines.Routine.{HasAt}
+use Rattle.flat_code.proofs.Routines.Steps.{has_front, has_self}
 use Rattle.runtime_functions.specs.Library.{Passed, NoValue, OneWord, WithEntry, register_count}
 use Rattle.metadata_plan.specs.Registers.{words_of}
 use Rattle.metadata_plan.specs.Expanded.{Leads}
@@ -48,7 +49,8 @@ use Rattle.metadata_relation.specs.Blocks.{Expansion, objects_of_body, result_of
 use Rattle.metadata_relation.specs.Blocks.{enter_body, entry_code, prologue, zero_variables}
 use Rattle.metadata_relation.specs.Expanded.{EntersAt}
 use Rattle.metadata_relation.specs.Holding.{IsPlain}
-use Rattle.metadata_relation.specs.Registers.{passed_as, parameters_end, variable_words, parameter_words, total, area_words}
+use Rattle.metadata_relation.specs.Registers.{passed_as, parameters_end, variable_words, parameter_words, total}
+use Rattle.metadata_relation.specs.Registers.{area_words}
 use Rattle.metadata_relation.specs.Registers.{variable_register}
 use Rattle.metadata_relation.specs.Stages.{factor, Compiled, map_of, views, world}
 use Rattle.metadata_relation.specs.Stages.{StandsIn, MatchesBy}
@@ -63,7 +65,7 @@ use Rattle.source_meaning.specs.Keeping.{AreSeparate}
 use Rattle.metadata_relation.specs.Waiting.{BodyBy, IsBodyAs}
 use Rattle.metadata_relation.proofs.Waiting.{body_waits, CallerWaits, waits_same}
 use Rattle.obj_memory.specs.Sound.{Continues}
-use Rattle.flat_meaning.specs.Words.{HasWords}
+use Rattle.flat_code.specs.Words.{HasWords}
 use Rattle.lib_wrappers.specs.AllocatingRoutines.Premises.{HaveBytes}
 use Rattle.source_meaning.specs.Good.{IsSetUp}
 use Rattle.metadata_relation.proofs.RuntimeCalls.{caller_rooms}

@@ -2,13 +2,13 @@
 use Rattle.std.proofs.Common.{◌≡◌, ◌≢◌, ◌⊎◌, inl, inr, ℕ, ◌+◌, ◌^◌, ◌<◌, ◌≤◌, Bool, true, false, List, [], ◌∷◌, arith}
 use Rattle.std.specs.Prelude.{nat_eq, if◌then◌else◌}
 use Rattle.words.specs.TwosComplement.{low_bits}
-use Rattle.flat_meaning.specs.declared.instruction.FlatInstruction.{FlatInstruction}
-use Rattle.flat_meaning.specs.declared.instruction.FlatInstruction.TheVariants.{Constant, Move}
-use Rattle.flat_meaning.specs.Memory.{put}
-use Rattle.flat_meaning.specs.State as flat
-use Rattle.flat_meaning.specs.Words.{AreWords, IsOfWords}
-use Rattle.flat_routines.specs.Metadata.{held_registers}
-use Rattle.flat_routines.specs.Registers.{AreBelow, AreDistinct, IsNoneOf}
+use Rattle.flat_code.specs.declared.instruction.FlatInstruction.{FlatInstruction}
+use Rattle.flat_code.specs.declared.instruction.FlatInstruction.TheVariants.{Constant, Move}
+use Rattle.flat_code.specs.Memory.{put}
+use Rattle.flat_code.specs.State as flat
+use Rattle.flat_code.specs.Words.{AreWords, IsOfWords}
+use Rattle.flat_code.specs.Routines.Metadata.{held_registers}
+use Rattle.flat_code.specs.Routines.Registers.{AreBelow, AreDistinct, IsNoneOf}
 use Rattle.runtime_functions.specs.Library.{held_from}
 use Rattle.metadata_relation.proofs.Assigning.{assigned}
 

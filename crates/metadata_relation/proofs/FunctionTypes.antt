@@ -1,5 +1,6 @@
 -- What the key of a pointer to a function tells: its type, by the first function that has it.
-use Rattle.std.proofs.Common.{◌≡◌, inl, inr, ℕ, zero, suc, ◌+◌, ◌-◌, ◌*◌, ◌/◌, ◌%◌, ◌^◌, ◌<◌, ◌≤◌, Bool, true, false, List}
+use Rattle.std.proofs.Common.{◌≡◌, inl, inr, ℕ, zero, suc, ◌+◌, ◌-◌, ◌*◌, ◌/◌, ◌%◌, ◌^◌, ◌<◌, ◌≤◌, Bool, true, false}
+use Rattle.std.proofs.Common.{List}
 use Rattle.std.proofs.Common.{[], ◌∷◌, length, map, Some, None, refl, sym, ap, ◌∙◌, subst, arith}
 use Rattle.std.specs.Prelude.{slice_get, min, ◌==◌, if◌then◌else◌, nat_le, ◌&&◌}
 use Rattle.std.proofs.lemmas.Bool.{and_parts, and_from, eq-eqb, eqb-true, eqb-false, leb-true, le-leb}
@@ -18,7 +19,7 @@ use Rattle.source_meaning.specs.State.{State, Header, Gives, Ended, choose, done
 use Rattle.source_meaning.specs.Expressions.{callee_by, has_type, header_at}
 use Rattle.tac_ir.specs.declared.function.CodeFunction.{CodeFunction}
 use Rattle.tac_ir.specs.Meaning.{header_of_code}
-use Rattle.flat_routines.specs.Objects.StandsFor.{Views, Keys, spell}
+use Rattle.flat_code.specs.Routines.Objects.StandsFor.{Views, Keys, spell}
 use Rattle.metadata_relation.specs.FunctionTypes.{first_of_type, type_key_of}
 
 -- ---- the first function of a type

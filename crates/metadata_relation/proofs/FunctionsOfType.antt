@@ -21,7 +21,7 @@ use Rattle.tac_ir.specs.declared.function.CodeFunction.{CodeFunction}
 use Rattle.tac_ir.specs.declared.function.Tac.{Tac}
 use Rattle.tac_ir.specs.Fitting.{are_passed, fit_type, taken_by}
 use Rattle.tac_ir.specs.Meaning.{header_of_code}
-use Rattle.flat_meaning.specs.Memory.{Bytes}
+use Rattle.flat_code.specs.Memory.{Bytes}
 use Rattle.runtime_functions.specs.Library.{register_count}
 use Rattle.metadata_relation.specs.FunctionTypes.{first_of_type, type_key, object_units, room_told}
 use Rattle.metadata_relation.specs.Registers.{passed_as, parameter_words, parameters_end, total}

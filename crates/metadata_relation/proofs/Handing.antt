@@ -16,7 +16,8 @@ use Rattle.source_meaning.specs.State.{State, Rvalue, Gives as GivesRun}
 use Rattle.source_meaning.specs.Actions.{integer}
 use Rattle.source_meaning.specs.Blocks.{has_objects, objects_end}
 use Rattle.source_meaning.specs.Calls.{header_of, set_up, caller}
-use Rattle.source_meaning.specs.Good.{IsGood as IsGoodState, file_scope, ArgumentIs, ArgumentsAre, TakenOf, IsOfKind, IsSetUp}
+use Rattle.source_meaning.specs.Good.{IsGood as IsGoodState, file_scope, ArgumentIs, ArgumentsAre, TakenOf, IsOfKind}
+use Rattle.source_meaning.specs.Good.{IsSetUp}
 use Rattle.source_meaning.specs.Places.{stack_first, stack_end}
 use Rattle.source_meaning.specs.Structures.{rvalue}
 use Rattle.source_meaning.proofs.Holding.{live_made}
@@ -28,16 +29,16 @@ use Rattle.tac_ir.specs.Fitting.{is_word, has_no_tag, is_of_type, is_plain_word,
 use Rattle.tac_ir.specs.Stage.{Temps, gathered, Waiting, Frame, Waits, Stage}
 use Rattle.tac_ir.specs.Costs.{spent}
 use Rattle.tac_ir.specs.Meaning.{function_in as code_in, header_of_code, begun}
-use Rattle.flat_meaning.specs.declared.instruction.FlatInstruction.{FlatInstruction}
-use Rattle.flat_meaning.specs.declared.instruction.FlatInstruction.TheVariants as flat_code
-use Rattle.flat_meaning.specs.declared.function.FlatProgram.{FlatProgram}
-use Rattle.flat_meaning.specs.Memory.{Bytes}
-use Rattle.flat_meaning.specs.State as flat
-use Rattle.flat_meaning.specs.Calls.{function_in, arguments}
-use Rattle.flat_meaning.specs.Words.{HasWords}
-use Rattle.flat_meaning.specs.Meaning.{body_of}
-use Rattle.flat_routines.specs.Routine.{HasAt}
-use Rattle.flat_routines.proofs.Steps.{has_front, has_back}
+use Rattle.flat_code.specs.declared.instruction.FlatInstruction.{FlatInstruction}
+use Rattle.flat_code.specs.declared.instruction.FlatInstruction.TheVariants as flat_code
+use Rattle.flat_code.specs.declared.function.FlatProgram.{FlatProgram}
+use Rattle.flat_code.specs.Memory.{Bytes}
+use Rattle.flat_code.specs.State as flat
+use Rattle.flat_code.specs.Calls.{function_in, arguments}
+use Rattle.flat_code.specs.Words.{HasWords}
+use Rattle.flat_code.specs.Meaning.{body_of}
+use Rattle.flat_code.specs.Routines.Routine.{HasAt}
+use Rattle.flat_code.proofs.Routines.Steps.{has_front, has_back}
 use Rattle.metadata_plan.specs.Registers.{most_temporaries}
 use Rattle.metadata_plan.specs.Expanded.{Leads}
 use Rattle.metadata_plan.proofs.Calling.{gathered_at}
@@ -45,7 +46,7 @@ use Rattle.metadata_plan.proofs.Calling.{argument_in}
 use Rattle.metadata_plan.proofs.Flat.{Comes}
 use Rattle.metadata_plan.specs.Entries.{given}
 use Rattle.tac_ir.specs.Edges.{LeadsTo}
-use Rattle.flat_meaning.specs.Meaning.{at_instruction, step}
+use Rattle.flat_code.specs.Meaning.{at_instruction, step}
 use Rattle.metadata_relation.specs.Blocks.{objects_of_body, result_of, result_entry, pack}
 use Rattle.metadata_relation.specs.Holding.{IsHeldAt, IsPlain, is_pointer_type}
 use Rattle.metadata_relation.specs.Registers.{passed_as, parameters_end}

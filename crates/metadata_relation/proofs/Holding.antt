@@ -1,6 +1,7 @@
 -- Registers hold on what they held: while objects go on and keys are added, and where one of them gets a value.
 use Rattle.std.proofs.Common.{◌≡◌, ◌≢◌, ◌⊎◌, ⊎_elim, inl, inr, ℕ, suc, ◌+◌, ◌<◌, ◌≤◌, Bool, true, false, List}
-use Rattle.std.proofs.Common.{length, length-set, set, Option, Some, None, refl, sym, ap, ap₂, ◌∙◌, subst, arith, get_or}
+use Rattle.std.proofs.Common.{length, length-set, set, Option, Some, None, refl, sym, ap, ap₂, ◌∙◌, subst, arith}
+use Rattle.std.proofs.Common.{get_or}
 use Rattle.std.proofs.lemmas.List.{get_or-set_same, get_or-set_other}
 use Rattle.std.proofs.lemmas.Option.{same_Some}
 use Rattle.std.specs.Prelude.{◌==◌, if◌then◌else◌}
@@ -23,11 +24,11 @@ use Rattle.source_meaning.proofs.Holding.{live_made}
 use Rattle.tac_ir.specs.declared.function.CodeFunction.{CodeFunction}
 use Rattle.tac_ir.specs.Stage.{Temps, with_temp}
 use Rattle.tac_ir.specs.Structures.{greatest_structure}
-use Rattle.flat_meaning.specs.Memory.{Bytes}
-use Rattle.flat_meaning.specs.State as flat
-use Rattle.flat_routines.specs.Metadata.{metadata_in}
-use Rattle.flat_routines.specs.Objects.StandsFor.{Views, Keys, Holding, Spells, spell}
-use Rattle.flat_routines.proofs.Words.{same_metadata}
+use Rattle.flat_code.specs.Memory.{Bytes}
+use Rattle.flat_code.specs.State as flat
+use Rattle.flat_code.specs.Routines.Metadata.{metadata_in}
+use Rattle.flat_code.specs.Routines.Objects.StandsFor.{Views, Keys, Holding, Spells, spell}
+use Rattle.flat_code.proofs.Routines.Words.{same_metadata}
 use Rattle.flat_actions.specs.Actions.{KeepsHeld}
 use Rattle.flat_actions.proofs.Standing.{keeps_same}
 use Rattle.lib_wrappers.specs.AreaRoutines.Areas.{HoldsPart}
@@ -36,7 +37,8 @@ use Rattle.runtime_functions.specs.Library.{held_from}
 use Rattle.metadata_plan.specs.Registers.{all_variables, most_temporaries}
 use Rattle.metadata_relation.specs.Registers.{entry_from, variable_register, variables_end, home_register, homes_end}
 use Rattle.metadata_relation.specs.Registers.{temporary_register, moved_register, first_free}
-use Rattle.metadata_relation.specs.Holding.{World, GoesOn, world_of, IsHeldAt, area_of, IsContentsAt, IsRvalueAt, IsTemporary}
+use Rattle.metadata_relation.specs.Holding.{World, GoesOn, world_of, IsHeldAt, area_of, IsContentsAt, IsRvalueAt}
+use Rattle.metadata_relation.specs.Holding.{IsTemporary}
 use Rattle.metadata_relation.specs.Holding.{is_pointer_type, IsPlain, IsHome, HasHomes, Activation, Holds}
 use Rattle.metadata_relation.proofs.Registers.{count_of, count_in, few_in, some_in, variable_low, variables_apart}
 use Rattle.metadata_relation.proofs.Registers.{home_low, temporaries_apart}

@@ -15,12 +15,12 @@ use Rattle.tac_ir.specs.Costs.{spent}
 use Rattle.tac_ir.specs.Meaning.{effect, function_in as code_in, objects_before, objects_in, variables_in}
 use Rattle.tac_ir.specs.Stage.{Entered, Frame, Stands, Stuck, Temps, Waits}
 use Rattle.tac_ir.proofs.Fits.{only_true}
-use Rattle.flat_meaning.specs.declared.instruction.FlatInstruction.{FlatInstruction}
-use Rattle.flat_meaning.specs.Calls.{function_in}
-use Rattle.flat_meaning.specs.Meaning.{body_of}
-use Rattle.flat_meaning.specs.Memory.{Bytes}
-use Rattle.flat_meaning.specs.State as flat
-use Rattle.flat_meaning.specs.Words.{HasWords}
+use Rattle.flat_code.specs.declared.instruction.FlatInstruction.{FlatInstruction}
+use Rattle.flat_code.specs.Calls.{function_in}
+use Rattle.flat_code.specs.Meaning.{body_of}
+use Rattle.flat_code.specs.Memory.{Bytes}
+use Rattle.flat_code.specs.State as flat
+use Rattle.flat_code.specs.Words.{HasWords}
 use Rattle.lib_wrappers.proofs.AllocatingRoutines.BlockDeaths.{count_without}
 use Rattle.metadata_relation.specs.Blocks.{leave_code}
 use Rattle.metadata_relation.specs.Holding.{Holds}

@@ -14,15 +14,15 @@ use Rattle.source_meaning.specs.Places.{statics_first}
 use Rattle.source_meaning.proofs.ActionsAct.{continues_without}
 use Rattle.source_meaning.proofs.Holding.{live_made}
 use Rattle.tac_ir.specs.Stage.{Frame, Temps}
-use Rattle.flat_meaning.specs.declared.instruction.FlatInstruction.{FlatInstruction}
-use Rattle.flat_meaning.specs.Calls.{charged, function_in}
-use Rattle.flat_meaning.specs.Meaning.{body_of, is_runtime_function, weight_of}
-use Rattle.flat_meaning.specs.Memory.{Bytes, put, store}
-use Rattle.flat_meaning.specs.State as flat
-use Rattle.flat_meaning.specs.Words.{HasWords}
-use Rattle.flat_meaning.proofs.Stored.{load_stored, put_other, store_beside}
-use Rattle.flat_routines.specs.Routine.{Either, HasAt, Never}
-use Rattle.flat_routines.proofs.Steps.{has_back, has_front}
+use Rattle.flat_code.specs.declared.instruction.FlatInstruction.{FlatInstruction}
+use Rattle.flat_code.specs.Calls.{charged, function_in}
+use Rattle.flat_code.specs.Meaning.{body_of, is_runtime_function, weight_of}
+use Rattle.flat_code.specs.Memory.{Bytes, put, store}
+use Rattle.flat_code.specs.State as flat
+use Rattle.flat_code.specs.Words.{HasWords}
+use Rattle.flat_code.proofs.Stored.{load_stored, put_other, store_beside}
+use Rattle.flat_code.specs.Routines.Routine.{Either, HasAt, Never}
+use Rattle.flat_code.proofs.Routines.Steps.{has_back, has_front}
 use Rattle.flat_actions.specs.Actions.{IsFor}
 use Rattle.flat_actions.proofs.Standing.{keeps_same}
 use Rattle.lib_wrappers.specs.AllocatingRoutines.Entering.{AreOfLock, HasLeft, IsHomeOf}

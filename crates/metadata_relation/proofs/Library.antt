@@ -1,6 +1,7 @@
 -- The routines of the library whose lists stand inline: a byte is put out or taken, or the run ends.
 use Rattle.std.proofs.Common.{◌≡◌, ◌⊎◌, inl, ℕ, zero, suc, ◌+◌, ◌-◌, ◌*◌, ◌%◌, ◌^◌, ◌<◌, ◌≤◌, true, false, List, []}
-use Rattle.std.proofs.Common.{◌∷◌, ◌++◌, length, length-append, Option, Some, None, drop, refl, sym, ap, ◌∙◌, subst, arith}
+use Rattle.std.proofs.Common.{◌∷◌, ◌++◌, length, length-append, Option, Some, None, drop, refl, sym, ap, ◌∙◌, subst}
+use Rattle.std.proofs.Common.{arith}
 use Rattle.std.proofs.Common.{mul-le-mul_right}
 use Rattle.std.specs.Prelude.{slice_get}
 use Rattle.std.proofs.lemmas.Bool.{and_parts, false≢true}
@@ -27,17 +28,17 @@ use Rattle.tac_ir.specs.Accesses.{is_place}
 use Rattle.tac_ir.specs.Stage.{Temps, with_temp, gathered, Frame, Stage, Stands, Over, came}
 use Rattle.tac_ir.specs.Costs.{spent, fourfold}
 use Rattle.tac_ir.specs.Meaning.{effect, given_in}
-use Rattle.flat_meaning.specs.declared.instruction.FlatInstruction.{FlatInstruction}
-use Rattle.flat_meaning.specs.declared.instruction.FlatInstruction.TheVariants as flat_code
-use Rattle.flat_meaning.specs.declared.function.FlatProgram.{FlatProgram}
-use Rattle.flat_meaning.specs.Memory.{Bytes, put}
-use Rattle.flat_meaning.specs.State as flat
-use Rattle.flat_meaning.specs.Calls.{function_in}
-use Rattle.flat_meaning.specs.Meaning.{body_of, weight_of, received}
-use Rattle.flat_meaning.specs.Words.{HasWords}
-use Rattle.flat_meaning.proofs.Stored.{put_same, put_other}
-use Rattle.flat_routines.specs.Routine.{HasAt}
-use Rattle.flat_routines.proofs.Steps.{has_front, has_back}
+use Rattle.flat_code.specs.declared.instruction.FlatInstruction.{FlatInstruction}
+use Rattle.flat_code.specs.declared.instruction.FlatInstruction.TheVariants as flat_code
+use Rattle.flat_code.specs.declared.function.FlatProgram.{FlatProgram}
+use Rattle.flat_code.specs.Memory.{Bytes, put}
+use Rattle.flat_code.specs.State as flat
+use Rattle.flat_code.specs.Calls.{function_in}
+use Rattle.flat_code.specs.Meaning.{body_of, weight_of, received}
+use Rattle.flat_code.specs.Words.{HasWords}
+use Rattle.flat_code.proofs.Stored.{put_same, put_other}
+use Rattle.flat_code.specs.Routines.Routine.{HasAt}
+use Rattle.flat_code.proofs.Routines.Steps.{has_front, has_back}
 use Rattle.metadata_plan.specs.Registers.{most_temporaries}
 use Rattle.metadata_plan.specs.Entries.{given}
 use Rattle.metadata_plan.specs.Expanded.{Leads}
@@ -47,7 +48,8 @@ use Rattle.metadata_plan.proofs.Flat.{exit_step, end_step}
 use Rattle.metadata_plan.proofs.Library.{status_is}
 use Rattle.metadata_relation.specs.Registers.{temporary_register, first_free}
 use Rattle.metadata_relation.specs.Blocks.{untagged}
-use Rattle.metadata_relation.specs.Stages.{factor, Compiled, map_of, views, names, world, activation, expansion_of, IsAt}
+use Rattle.metadata_relation.specs.Stages.{factor, Compiled, map_of, views, names, world, activation, expansion_of}
+use Rattle.metadata_relation.specs.Stages.{IsAt}
 use Rattle.metadata_relation.specs.Steps.{IsCompiled, is_inline_routine}
 use Rattle.metadata_relation.proofs.Assigning.{assigned, are_assignments, assigns, wider, not_into}
 use Rattle.metadata_relation.proofs.Holding.{same_world, gives_temporary}
@@ -55,7 +57,8 @@ use Rattle.metadata_relation.proofs.Moving.{held_of}
 use Rattle.metadata_relation.proofs.Parts.{moment, at_first, stands_here, then_computed}
 use Rattle.metadata_relation.proofs.Registers.{temporary_free}
 use Rattle.metadata_relation.proofs.Setting.{place_is}
-use Rattle.metadata_relation.proofs.Standing.{good_counted, counted_as, IsNode, node, fewer, arrives, leads_on, ends, Result}
+use Rattle.metadata_relation.proofs.Standing.{good_counted, counted_as, IsNode, node, fewer, arrives, leads_on, ends}
+use Rattle.metadata_relation.proofs.Standing.{Result}
 use Rattle.metadata_relation.proofs.Updating.{untagged_are, untagged_leaves}
 
 -- a number as an unsigned char

@@ -16,9 +16,9 @@ use Rattle.tac_ir.specs.declared.function.CodeFunction.{CodeFunction}
 use Rattle.tac_ir.specs.Accesses.{is_place}
 use Rattle.tac_ir.specs.Fitting.{are_passed, is_of_type, is_passed}
 use Rattle.tac_ir.specs.Stage.{gathered, Temps}
-use Rattle.flat_meaning.specs.State as flat
-use Rattle.flat_routines.specs.Metadata.{metadata_in}
-use Rattle.flat_routines.proofs.Words.{same_metadata}
+use Rattle.flat_code.specs.State as flat
+use Rattle.flat_code.specs.Routines.Metadata.{metadata_in}
+use Rattle.flat_code.proofs.Routines.Words.{same_metadata}
 use Rattle.flat_actions.specs.Actions.{AreHeldBy, IsHeldBy}
 use Rattle.runtime_functions.specs.Actions.{over_registers}
 use Rattle.runtime_functions.specs.Library.{held_from, holder_from, holders_from, NoValue, OneWord, Passed}

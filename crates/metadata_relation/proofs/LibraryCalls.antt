@@ -37,18 +37,18 @@ use Rattle.tac_ir.specs.Costs.{fourfold, spent}
 use Rattle.tac_ir.specs.Fitting.{are_passed}
 use Rattle.tac_ir.specs.Meaning.{effect, given_in}
 use Rattle.tac_ir.specs.Stage.{came, Frame, gathered, Over, Stage, Stands, Temps, with_temp}
-use Rattle.flat_meaning.specs.declared.instruction.FlatInstruction.{FlatInstruction}
-use Rattle.flat_meaning.specs.declared.instruction.FlatInstruction.TheVariants.{Call}
-use Rattle.flat_meaning.specs.Calls.{function_in}
-use Rattle.flat_meaning.specs.Meaning.{body_of, step}
-use Rattle.flat_meaning.specs.Memory.{Bytes, put}
-use Rattle.flat_meaning.specs.State as flat
-use Rattle.flat_meaning.specs.Words.{HasWords}
-use Rattle.flat_meaning.proofs.Stored.{put_other, put_same}
-use Rattle.flat_routines.specs.Metadata.{metadata_in}
-use Rattle.flat_routines.specs.Routine.{HasAt}
-use Rattle.flat_routines.proofs.Steps.{has_back, has_front}
-use Rattle.flat_routines.proofs.Words.{same_metadata}
+use Rattle.flat_code.specs.declared.instruction.FlatInstruction.{FlatInstruction}
+use Rattle.flat_code.specs.declared.instruction.FlatInstruction.TheVariants.{Call}
+use Rattle.flat_code.specs.Calls.{function_in}
+use Rattle.flat_code.specs.Meaning.{body_of, step}
+use Rattle.flat_code.specs.Memory.{Bytes, put}
+use Rattle.flat_code.specs.State as flat
+use Rattle.flat_code.specs.Words.{HasWords}
+use Rattle.flat_code.proofs.Stored.{put_other, put_same}
+use Rattle.flat_code.specs.Routines.Metadata.{metadata_in}
+use Rattle.flat_code.specs.Routines.Routine.{HasAt}
+use Rattle.flat_code.proofs.Routines.Steps.{has_back, has_front}
+use Rattle.flat_code.proofs.Routines.Words.{same_metadata}
 use Rattle.flat_actions.specs.Actions.{AreHeldBy, IsFor, IsGivenIn, Nowhere}
 use Rattle.lib_wrappers.specs.AllocatingRoutines.Premises.{AreStanding}
 use Rattle.runtime_functions.specs.declared.library.LibraryFunction.{LibraryFunction}
@@ -80,9 +80,11 @@ use Rattle.metadata_relation.proofs.Finishing.{acted_as, acted_then, acted_worke
 use Rattle.metadata_relation.proofs.Finishing.{integer_cleared, integer_few, integer_moved, IsPlacedIn, move_few}
 use Rattle.metadata_relation.proofs.Finishing.{nothing_done, tagged_in, untagged_few, value_moved}
 use Rattle.metadata_relation.proofs.Library.{library_step}
-use Rattle.metadata_relation.proofs.LibraryArguments.{are_packed, are_scalars, AreMoved, arguments_held, arguments_kinds}
+use Rattle.metadata_relation.proofs.LibraryArguments.{are_packed, are_scalars, AreMoved, arguments_held}
+use Rattle.metadata_relation.proofs.LibraryArguments.{arguments_kinds}
 use Rattle.metadata_relation.proofs.LibraryArguments.{arguments_sound, pack_length}
-use Rattle.metadata_relation.proofs.LibraryRuns.{free_gives, GivesBy, IsToldBy, KeepsCaller, least_count, routine_counts}
+use Rattle.metadata_relation.proofs.LibraryRuns.{free_gives, GivesBy, IsToldBy, KeepsCaller, least_count}
+use Rattle.metadata_relation.proofs.LibraryRuns.{routine_counts}
 use Rattle.metadata_relation.proofs.LibraryRuns.{routine_serves, ServesBy}
 use Rattle.metadata_relation.proofs.Packing.{count_passed, pack_assigns}
 use Rattle.metadata_relation.proofs.Pointers.{operand}

@@ -22,17 +22,17 @@ use Rattle.source_meaning.proofs.Holding.{live_made}
 use Rattle.source_meaning.proofs.Laying.{within_stack}
 use Rattle.source_meaning.proofs.Lines.{lines_enter_block}
 use Rattle.tac_ir.specs.declared.function.CodeFunction.{CodeFunction}
-use Rattle.flat_meaning.specs.declared.instruction.FlatInstruction.{FlatInstruction}
-use Rattle.flat_meaning.specs.declared.instruction.FlatInstruction.TheVariants.{Call, Move}
-use Rattle.flat_meaning.specs.Calls.{charged, function_in, rooms}
-use Rattle.flat_meaning.specs.Meaning.{body_of}
-use Rattle.flat_meaning.specs.Memory.{Bytes, load, put, store}
-use Rattle.flat_meaning.specs.State as flat
-use Rattle.flat_meaning.specs.Words.{HasWords, IsOfWords}
-use Rattle.flat_meaning.proofs.Stored.{load_stored, put_other, put_same, store_beside}
-use Rattle.flat_routines.specs.Objects.StandsFor.{Holding, Keys}
-use Rattle.flat_routines.specs.Routine.{HasAt}
-use Rattle.flat_routines.proofs.Steps.{has_back, has_front}
+use Rattle.flat_code.specs.declared.instruction.FlatInstruction.{FlatInstruction}
+use Rattle.flat_code.specs.declared.instruction.FlatInstruction.TheVariants.{Call, Move}
+use Rattle.flat_code.specs.Calls.{charged, function_in, rooms}
+use Rattle.flat_code.specs.Meaning.{body_of}
+use Rattle.flat_code.specs.Memory.{Bytes, load, put, store}
+use Rattle.flat_code.specs.State as flat
+use Rattle.flat_code.specs.Words.{HasWords, IsOfWords}
+use Rattle.flat_code.proofs.Stored.{load_stored, put_other, put_same, store_beside}
+use Rattle.flat_code.specs.Routines.Objects.StandsFor.{Holding, Keys}
+use Rattle.flat_code.specs.Routines.Routine.{HasAt}
+use Rattle.flat_code.proofs.Routines.Steps.{has_back, has_front}
 use Rattle.flat_actions.specs.Actions.{IsFor}
 use Rattle.lib_wrappers.specs.AllocatingRoutines.Entering.{AreOfLock, AreSized, block_bytes}
 use Rattle.lib_wrappers.specs.AllocatingRoutines.Premises.{HaveBytes}
@@ -47,7 +47,8 @@ use Rattle.runtime_functions.specs.Entering.{HasEnteredBlock, IsBlockServed}
 use Rattle.runtime_functions.proofs.Entering.{entered_at_line}
 use Rattle.metadata_plan.specs.Registers.{all_variables}
 use Rattle.metadata_plan.proofs.Flat.{at_place, Comes, move_comes}
-use Rattle.metadata_relation.specs.Blocks.{enter_code, enter_place, enter_statuses, place_homes, read_top, runtime_number}
+use Rattle.metadata_relation.specs.Blocks.{enter_code, enter_place, enter_statuses, place_homes, read_top}
+use Rattle.metadata_relation.specs.Blocks.{runtime_number}
 use Rattle.metadata_relation.specs.Blocks.{status_code, top_cell, write_top}
 use Rattle.metadata_relation.specs.Holding.{GoesOn, HasHomes, IsHome, is_object_in}
 use Rattle.metadata_relation.specs.Registers.{first_free, first_object, home_register, homes_end, lock_register}

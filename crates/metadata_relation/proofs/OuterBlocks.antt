@@ -6,7 +6,7 @@ use Rattle.source_meaning.specs.Blocks.{Block, has_objects, homes_over, over}
 use Rattle.tac_ir.specs.declared.function.CodeFunction.{CodeFunction}
 use Rattle.tac_ir.specs.Meaning.{objects_in}
 use Rattle.tac_ir.specs.Stage.{Entered, Frame, Waits}
-use Rattle.flat_meaning.specs.State as flat
+use Rattle.flat_code.specs.State as flat
 use Rattle.lib_wrappers.specs.AllocatingRoutines.Entering.{AreOfLock}
 use Rattle.metadata_relation.specs.Blocks.{objects_of_body}
 use Rattle.metadata_relation.specs.Holding.{HasHomes, World}

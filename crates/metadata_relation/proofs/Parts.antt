@@ -1,13 +1,13 @@
 -- A block that stands at a node is run part after part, as long as registers alone change.
 use Rattle.std.proofs.Common.{◌≡◌, ℕ, ◌+◌, ◌*◌, true, List, length, ap, subst, arith}
 use Rattle.addr_map.specs.Places.{MapSizes}
-use Rattle.flat_meaning.specs.declared.instruction.FlatInstruction.{FlatInstruction}
-use Rattle.flat_meaning.specs.declared.function.FlatProgram.{FlatProgram}
-use Rattle.flat_meaning.specs.State as flat
-use Rattle.flat_meaning.specs.Calls.{function_in}
-use Rattle.flat_meaning.specs.Meaning.{body_of, weight_of}
-use Rattle.flat_meaning.specs.Words.{HasWords}
-use Rattle.flat_routines.specs.Routine.{HasAt}
+use Rattle.flat_code.specs.declared.instruction.FlatInstruction.{FlatInstruction}
+use Rattle.flat_code.specs.declared.function.FlatProgram.{FlatProgram}
+use Rattle.flat_code.specs.State as flat
+use Rattle.flat_code.specs.Calls.{function_in}
+use Rattle.flat_code.specs.Meaning.{body_of, weight_of}
+use Rattle.flat_code.specs.Words.{HasWords}
+use Rattle.flat_code.specs.Routines.Routine.{HasAt}
 use Rattle.metadata_plan.specs.Operators.{Position, Computes, IsHere}
 use Rattle.metadata_plan.proofs.Numbers.{scaled}
 use Rattle.metadata_plan.proofs.Flat.{weight_small, Comes, then_comes, words_kept}

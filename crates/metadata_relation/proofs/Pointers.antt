@@ -10,7 +10,8 @@ use Rattle.obj_memory.specs.Judgement.{moved}
 use Rattle.obj_memory.specs.Sound.{IsSoundTag}
 use Rattle.obj_memory.proofs.Judging.{sound_pointer}
 use Rattle.c_tree.specs.declared.expression.OffsetForm.{OffsetForm}
-use Rattle.c_tree.specs.declared.expression.OffsetForm.TheVariants.{PointerPlusIndex, IndexPlusPointer, PointerMinusIndex}
+use Rattle.c_tree.specs.declared.expression.OffsetForm.TheVariants.{PointerPlusIndex, IndexPlusPointer}
+use Rattle.c_tree.specs.declared.expression.OffsetForm.TheVariants.{PointerMinusIndex}
 use Rattle.source_meaning.specs.State.{State, Home, NoObject, InObject}
 use Rattle.source_meaning.specs.Actions.{offset_value, home_value}
 use Rattle.source_meaning.specs.Structures.{rvalue}
@@ -21,23 +22,23 @@ use Rattle.tac_ir.specs.Edges.{LeadsTo}
 use Rattle.tac_ir.specs.Stage.{Temps, with_temp, Frame, Stage, Stands}
 use Rattle.tac_ir.specs.Costs.{spent}
 use Rattle.tac_ir.specs.Meaning.{effect}
-use Rattle.flat_meaning.specs.declared.instruction.FlatInstruction.{FlatInstruction}
-use Rattle.flat_meaning.specs.Memory.{Bytes, put}
-use Rattle.flat_meaning.specs.State as flat
-use Rattle.flat_meaning.specs.Calls.{function_in}
-use Rattle.flat_meaning.specs.Meaning.{body_of, context}
-use Rattle.flat_meaning.specs.Words.{IsOfWords}
-use Rattle.flat_meaning.proofs.Stored.{put_same, put_other}
+use Rattle.flat_code.specs.declared.instruction.FlatInstruction.{FlatInstruction}
+use Rattle.flat_code.specs.Memory.{Bytes, put}
+use Rattle.flat_code.specs.State as flat
+use Rattle.flat_code.specs.Calls.{function_in}
+use Rattle.flat_code.specs.Meaning.{body_of, context}
+use Rattle.flat_code.specs.Words.{IsOfWords}
+use Rattle.flat_code.proofs.Stored.{put_same, put_other}
 use Rattle.flat_operators.specs.Pointers.{address_forward, address_back}
-use Rattle.flat_routines.specs.declared.registers.Entry.{Entry}
-use Rattle.flat_routines.specs.InputOutput.{IsWithoutInputOutput}
-use Rattle.flat_routines.specs.Metadata.{metadata_in}
-use Rattle.flat_routines.specs.Objects.StandsFor.{spell}
-use Rattle.flat_routines.specs.Routine.{HasAt}
-use Rattle.flat_routines.proofs.Objects.Changing.{live_is_made}
-use Rattle.flat_routines.proofs.Regions.{laid_out}
-use Rattle.flat_routines.proofs.Steps.{has_front, has_back}
-use Rattle.flat_routines.proofs.Words.{same_metadata}
+use Rattle.flat_code.specs.declared.registers.Entry.{Entry}
+use Rattle.flat_code.specs.Routines.InputOutput.{IsWithoutInputOutput}
+use Rattle.flat_code.specs.Routines.Metadata.{metadata_in}
+use Rattle.flat_code.specs.Routines.Objects.StandsFor.{spell}
+use Rattle.flat_code.specs.Routines.Routine.{HasAt}
+use Rattle.flat_code.proofs.Routines.Objects.Changing.{live_is_made}
+use Rattle.flat_code.proofs.Routines.Regions.{laid_out}
+use Rattle.flat_code.proofs.Routines.Steps.{has_front, has_back}
+use Rattle.flat_code.proofs.Routines.Words.{same_metadata}
 use Rattle.runtime_functions.specs.Library.{held_from}
 use Rattle.metadata_plan.specs.Registers.{all_variables, most_temporaries}
 use Rattle.metadata_plan.specs.Entries.{given, entry_source, pointer_of}

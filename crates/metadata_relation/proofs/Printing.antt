@@ -29,18 +29,18 @@ use Rattle.tac_ir.specs.Costs.{fourfold, spent}
 use Rattle.tac_ir.specs.Fitting.{are_printed, each_printed, is_printed}
 use Rattle.tac_ir.specs.Meaning.{effect, given_in, text_in}
 use Rattle.tac_ir.specs.Stage.{came, Frame, gathered, Over, Stage, Stands, Temps, with_temp}
-use Rattle.flat_meaning.specs.declared.instruction.RightOperand.TheVariants.{Number, Register}
-use Rattle.flat_meaning.specs.declared.instruction.FlatInstruction.{FlatInstruction}
-use Rattle.flat_meaning.specs.declared.instruction.FlatInstruction.TheVariants.{Call, Constant, Operate, Operate32}
-use Rattle.flat_meaning.specs.declared.function.FlatProgram.{FlatProgram}
-use Rattle.flat_meaning.specs.Calls.{function_in}
-use Rattle.flat_meaning.specs.Meaning.{body_of, weight_of}
-use Rattle.flat_meaning.specs.Memory.{Bytes, load, put}
-use Rattle.flat_meaning.specs.State as flat
-use Rattle.flat_meaning.specs.Words.{HasWords}
-use Rattle.flat_meaning.proofs.Stored.{put_other, put_same}
-use Rattle.flat_routines.specs.Routine.{HasAt}
-use Rattle.flat_routines.proofs.Steps.{has_back, has_front}
+use Rattle.flat_code.specs.declared.instruction.RightOperand.TheVariants.{Number, Register}
+use Rattle.flat_code.specs.declared.instruction.FlatInstruction.{FlatInstruction}
+use Rattle.flat_code.specs.declared.instruction.FlatInstruction.TheVariants.{Call, Constant, Operate, Operate32}
+use Rattle.flat_code.specs.declared.function.FlatProgram.{FlatProgram}
+use Rattle.flat_code.specs.Calls.{function_in}
+use Rattle.flat_code.specs.Meaning.{body_of, weight_of}
+use Rattle.flat_code.specs.Memory.{Bytes, load, put}
+use Rattle.flat_code.specs.State as flat
+use Rattle.flat_code.specs.Words.{HasWords}
+use Rattle.flat_code.proofs.Stored.{put_other, put_same}
+use Rattle.flat_code.specs.Routines.Routine.{HasAt}
+use Rattle.flat_code.proofs.Routines.Steps.{has_back, has_front}
 use Rattle.flat_operators.proofs.Values.{int_by_word}
 use Rattle.flat_actions.specs.Scanning.{IsWorked}
 use Rattle.flat_actions.proofs.Standing.{for_worked}

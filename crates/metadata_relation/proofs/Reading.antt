@@ -34,21 +34,22 @@ use Rattle.tac_ir.specs.Costs.{cost, entries_of, spent}
 use Rattle.tac_ir.specs.Edges.{LeadsTo}
 use Rattle.tac_ir.specs.Meaning.{effect, function_in as code_in, given_in, keyed, keys_of}
 use Rattle.tac_ir.specs.Stage.{came, Frame, Stage, Stands, Stuck, Temps, with_temp}
-use Rattle.flat_meaning.specs.declared.instruction.FlatInstruction.{FlatInstruction}
-use Rattle.flat_meaning.specs.declared.instruction.FlatInstruction.TheVariants.{Move}
-use Rattle.flat_meaning.specs.Calls.{function_in}
-use Rattle.flat_meaning.specs.Meaning.{body_of}
-use Rattle.flat_meaning.specs.Memory.{Bytes, put}
-use Rattle.flat_meaning.specs.State as flat
-use Rattle.flat_meaning.specs.Words.{IsOfWords}
-use Rattle.flat_meaning.proofs.Stored.{put_same, put_other}
-use Rattle.flat_routines.specs.Metadata.{held_registers}
-use Rattle.flat_routines.specs.Registers.{AreBelow, AreDistinct}
-use Rattle.flat_routines.specs.Routine.{HasAt}
-use Rattle.flat_routines.proofs.Steps.{has_back, has_front}
+use Rattle.flat_code.specs.declared.instruction.FlatInstruction.{FlatInstruction}
+use Rattle.flat_code.specs.declared.instruction.FlatInstruction.TheVariants.{Move}
+use Rattle.flat_code.specs.Calls.{function_in}
+use Rattle.flat_code.specs.Meaning.{body_of}
+use Rattle.flat_code.specs.Memory.{Bytes, put}
+use Rattle.flat_code.specs.State as flat
+use Rattle.flat_code.specs.Words.{IsOfWords}
+use Rattle.flat_code.proofs.Stored.{put_same, put_other}
+use Rattle.flat_code.specs.Routines.Metadata.{held_registers}
+use Rattle.flat_code.specs.Routines.Registers.{AreBelow, AreDistinct}
+use Rattle.flat_code.specs.Routines.Routine.{HasAt}
+use Rattle.flat_code.proofs.Routines.Steps.{has_back, has_front}
 use Rattle.flat_actions.specs.Actions.{Pointer as InPointer, Word}
 use Rattle.flat_actions.proofs.Standing.{for_worked}
-use Rattle.lib_wrappers.specs.declared.accesses.held.HeldScalar.TheVariants.{Integer as HeldInteger, Pointer as HeldPointer}
+use Rattle.lib_wrappers.specs.declared.accesses.held.HeldScalar.TheVariants.{Integer as HeldInteger}
+use Rattle.lib_wrappers.specs.declared.accesses.held.HeldScalar.TheVariants.{Pointer as HeldPointer}
 use Rattle.lib_wrappers.specs.AccessRoutines.Accessing.{IsToAccess}
 use Rattle.runtime_functions.specs.Library.{held_from}
 use Rattle.metadata_plan.specs.Entries.{given, read_from}
@@ -63,7 +64,8 @@ use Rattle.metadata_relation.specs.Stages.{Compiled, expansion_of, IsAt, map_of,
 use Rattle.metadata_relation.specs.Steps.{IsCompiled, is_settled}
 use Rattle.metadata_relation.proofs.Accesses.{behind_read, found, keyed_opens, loaded}
 use Rattle.metadata_relation.proofs.Acting.{acts_giving, reached_by, reached_then}
-use Rattle.metadata_relation.proofs.Finishing.{acted_as, acted_then, ends_with, integer_cleared, nothing_done, tagged_in}
+use Rattle.metadata_relation.proofs.Finishing.{acted_as, acted_then, ends_with, integer_cleared, nothing_done}
+use Rattle.metadata_relation.proofs.Finishing.{tagged_in}
 use Rattle.metadata_relation.proofs.Assigning.{assigned}
 use Rattle.metadata_relation.proofs.Finishing.{untagged_few}
 use Rattle.metadata_relation.proofs.FiveRegisters.{assigned_words, below, distinct, none_of}

@@ -26,17 +26,17 @@ use Rattle.tac_ir.specs.Fitting.{has_no_tag, is_of_type, is_passed, is_plain_wor
 use Rattle.tac_ir.specs.Stage.{Temps, with_temp, Waiting, Frame, Waits, Entered, Stage, Stands, Over, Stuck}
 use Rattle.tac_ir.specs.Costs.{handed_bytes, spent}
 use Rattle.tac_ir.specs.Meaning.{function_in as code_in, type_of, effect, given_to, objects_before}
-use Rattle.flat_meaning.specs.declared.instruction.FlatInstruction.{FlatInstruction}
-use Rattle.flat_meaning.specs.declared.instruction.FlatInstruction.TheVariants as flat_code
-use Rattle.flat_meaning.specs.declared.function.FlatProgram.{FlatProgram}
-use Rattle.flat_meaning.specs.Memory.{Bytes}
-use Rattle.flat_meaning.specs.State as flat
-use Rattle.flat_meaning.specs.Words.{HasWords}
-use Rattle.flat_meaning.specs.Calls.{function_in, with_results}
-use Rattle.flat_meaning.specs.Meaning.{body_of, step, results_of, weight_of, instruction_at}
-use Rattle.flat_routines.specs.Objects.StandsFor.{spell}
-use Rattle.flat_routines.specs.Routine.{HasAt}
-use Rattle.flat_routines.proofs.Steps.{has_back, has_front}
+use Rattle.flat_code.specs.declared.instruction.FlatInstruction.{FlatInstruction}
+use Rattle.flat_code.specs.declared.instruction.FlatInstruction.TheVariants as flat_code
+use Rattle.flat_code.specs.declared.function.FlatProgram.{FlatProgram}
+use Rattle.flat_code.specs.Memory.{Bytes}
+use Rattle.flat_code.specs.State as flat
+use Rattle.flat_code.specs.Words.{HasWords}
+use Rattle.flat_code.specs.Calls.{function_in, with_results}
+use Rattle.flat_code.specs.Meaning.{body_of, step, results_of, weight_of, instruction_at}
+use Rattle.flat_code.specs.Routines.Objects.StandsFor.{spell}
+use Rattle.flat_code.specs.Routines.Routine.{HasAt}
+use Rattle.flat_code.proofs.Routines.Steps.{has_back, has_front}
 use Rattle.lib_wrappers.specs.AllocatingRoutines.Premises.{HaveBytes}
 use Rattle.lib_wrappers.proofs.AllocatingRoutines.BlockDeaths.{count_without}
 use Rattle.metadata_plan.specs.Registers.{most_temporaries}

@@ -8,23 +8,23 @@ use Rattle.addr_map.specs.Places.{MapSizes}
 use Rattle.obj_memory.specs.declared.value.Value.{Value}
 use Rattle.source_meaning.specs.State.{State as Source, Gives, Run}
 use Rattle.tac_ir.specs.declared.function.CodeFunction.{CodeFunction}
-use Rattle.flat_meaning.specs.declared.instruction.FlatInstruction.{FlatInstruction}
-use Rattle.flat_meaning.specs.declared.function.FlatFunction.{FlatFunction}
-use Rattle.flat_meaning.specs.declared.function.FlatProgram.{FlatProgram}
-use Rattle.flat_meaning.specs.Calls.{function_in, charged}
-use Rattle.flat_meaning.specs.Memory.{Bytes}
-use Rattle.flat_meaning.specs.State.{State, Frame, Stands, Over}
-use Rattle.flat_meaning.specs.Meaning.{Context, Goes, body_of, context, is_runtime_function, step, weight_of}
-use Rattle.flat_meaning.specs.Words.{IsOfWords}
-use Rattle.flat_meaning.proofs.Words.{LocalFits}
-use Rattle.flat_routines.specs.InputOutput.{IsWithoutInputOutput}
-use Rattle.flat_routines.specs.Laws.{work_of, report_length}
-use Rattle.flat_routines.specs.Local.{local_run}
-use Rattle.flat_routines.specs.Objects.StandsFor.{Keys}
-use Rattle.flat_routines.specs.Routine.{Outcome, Continues, Halts, left_at, Does}
-use Rattle.flat_routines.proofs.Lifted.{lifted}
-use Rattle.flat_routines.proofs.Steps.{run_fits}
-use Rattle.flat_routines.proofs.Work.{does_its_weight}
+use Rattle.flat_code.specs.declared.instruction.FlatInstruction.{FlatInstruction}
+use Rattle.flat_code.specs.declared.function.FlatFunction.{FlatFunction}
+use Rattle.flat_code.specs.declared.function.FlatProgram.{FlatProgram}
+use Rattle.flat_code.specs.Calls.{function_in, charged}
+use Rattle.flat_code.specs.Memory.{Bytes}
+use Rattle.flat_code.specs.State.{State, Frame, Stands, Over}
+use Rattle.flat_code.specs.Meaning.{Context, Goes, body_of, context, is_runtime_function, step, weight_of}
+use Rattle.flat_code.specs.Words.{IsOfWords}
+use Rattle.flat_code.proofs.Words.{LocalFits}
+use Rattle.flat_code.specs.Routines.InputOutput.{IsWithoutInputOutput}
+use Rattle.flat_code.specs.Routines.Laws.{work_of, report_length}
+use Rattle.flat_code.specs.Routines.Local.{local_run}
+use Rattle.flat_code.specs.Routines.Objects.StandsFor.{Keys}
+use Rattle.flat_code.specs.Routines.Routine.{Outcome, Continues, Halts, left_at, Does}
+use Rattle.flat_code.proofs.Routines.Lifted.{lifted}
+use Rattle.flat_code.proofs.Routines.Steps.{run_fits}
+use Rattle.flat_code.proofs.Routines.Work.{does_its_weight}
 use Rattle.flat_actions.specs.Actions.{Holder, IsFor, AreHeldBy, Leaves, HasGiven, program_basis, IsActionIn}
 use Rattle.flat_actions.specs.Actions.{work_of as work_of_run}
 use Rattle.metadata_plan.specs.Operators.{Position, IsHere}

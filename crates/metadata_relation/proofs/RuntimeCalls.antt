@@ -10,13 +10,13 @@ use Rattle.source_meaning.specs.State.{State, Gives, Run}
 use Rattle.source_meaning.specs.Places.{stack_first}
 use Rattle.tac_ir.specs.declared.function.CodeFunction.{CodeFunction}
 use Rattle.tac_ir.specs.Stage.{Frame, Temps, Waits, Entered}
-use Rattle.flat_meaning.specs.declared.instruction.FlatInstruction.TheVariants.{Call}
-use Rattle.flat_meaning.specs.declared.function.FlatFunction.{FlatFunction}
-use Rattle.flat_meaning.specs.Calls.{charged, function_in, room_if, rooms}
-use Rattle.flat_meaning.specs.Meaning.{body_of}
-use Rattle.flat_meaning.specs.Memory.{Bytes}
-use Rattle.flat_meaning.specs.State as flat
-use Rattle.flat_routines.specs.Objects.StandsFor.{Keys}
+use Rattle.flat_code.specs.declared.instruction.FlatInstruction.TheVariants.{Call}
+use Rattle.flat_code.specs.declared.function.FlatFunction.{FlatFunction}
+use Rattle.flat_code.specs.Calls.{charged, function_in, room_if, rooms}
+use Rattle.flat_code.specs.Meaning.{body_of}
+use Rattle.flat_code.specs.Memory.{Bytes}
+use Rattle.flat_code.specs.State as flat
+use Rattle.flat_code.specs.Routines.Objects.StandsFor.{Keys}
 use Rattle.flat_actions.specs.Actions.{HasGiven, Nowhere}
 use Rattle.runtime_functions.specs.declared.runtime.RuntimeFunction.{RuntimeFunction}
 use Rattle.runtime_functions.specs.Actions.{Interface, IsServed, ServesCall, steps_of, work_of_call}

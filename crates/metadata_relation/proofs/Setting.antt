@@ -1,6 +1,8 @@
 -- Plain variables that are set.
-use Rattle.std.proofs.Common.{◌≡◌, ◌≢◌, ◌⊎◌, inl, inr, ℕ, zero, suc, ◌+◌, ◌*◌, ◌^◌, ◌<◌, ◌≤◌, Bool, true, false, List, [], ◌∷◌}
-use Rattle.std.proofs.Common.{length, length-set, set, Option, Some, None, refl, sym, ap, ◌∙◌, subst, arith, get_or, ltb-true}
+use Rattle.std.proofs.Common.{◌≡◌, ◌≢◌, ◌⊎◌, inl, inr, ℕ, zero, suc, ◌+◌, ◌*◌, ◌^◌, ◌<◌, ◌≤◌, Bool, true, false, List}
+use Rattle.std.proofs.Common.{[], ◌∷◌}
+use Rattle.std.proofs.Common.{length, length-set, set, Option, Some, None, refl, sym, ap, ◌∙◌, subst, arith, get_or}
+use Rattle.std.proofs.Common.{ltb-true}
 use Rattle.std.specs.Prelude.{slice_get, ◌==◌, ◌&&◌}
 use Rattle.std.proofs.lemmas.Bool.{and_parts, eq-eqb, eqb-true, eqb-false}
 use Rattle.std.proofs.lemmas.List.{get_or-set_same, get_or-set_other, length-map}
@@ -27,13 +29,13 @@ use Rattle.tac_ir.specs.Accesses.{is_place}
 use Rattle.tac_ir.specs.Stage.{Temps, Frame, Stands}
 use Rattle.tac_ir.specs.Costs.{spent}
 use Rattle.tac_ir.specs.Meaning.{effect, function_in as code_in, variables_in}
-use Rattle.flat_meaning.specs.declared.instruction.FlatInstruction.{FlatInstruction}
-use Rattle.flat_meaning.specs.Memory.{Bytes, put}
-use Rattle.flat_meaning.specs.State as flat
-use Rattle.flat_meaning.specs.Calls.{function_in}
-use Rattle.flat_meaning.specs.Meaning.{body_of}
-use Rattle.flat_meaning.proofs.Stored.{put_same, put_other}
-use Rattle.flat_routines.specs.Routine.{HasAt}
+use Rattle.flat_code.specs.declared.instruction.FlatInstruction.{FlatInstruction}
+use Rattle.flat_code.specs.Memory.{Bytes, put}
+use Rattle.flat_code.specs.State as flat
+use Rattle.flat_code.specs.Calls.{function_in}
+use Rattle.flat_code.specs.Meaning.{body_of}
+use Rattle.flat_code.proofs.Stored.{put_same, put_other}
+use Rattle.flat_code.specs.Routines.Routine.{HasAt}
 use Rattle.metadata_plan.specs.Registers.{all_variables, most_temporaries}
 use Rattle.metadata_plan.specs.Entries.{given, is_pointer_type as is_pointer}
 use Rattle.metadata_plan.specs.Expanded.{Leads}
@@ -41,7 +43,8 @@ use Rattle.metadata_relation.specs.Registers.{variable_register, temporary_regis
 use Rattle.metadata_relation.specs.Blocks.{move_value, set_code}
 use Rattle.metadata_relation.specs.Holding.{World, IsHeldAt, IsRvalueAt, HasNoTag, is_pointer_type}
 use Rattle.metadata_relation.specs.Scopes.{Names, scope_of, base_of, context_at, AreGood}
-use Rattle.metadata_relation.specs.Stages.{factor, Compiled, map_of, views, names, world, activation, expansion_of, IsAt}
+use Rattle.metadata_relation.specs.Stages.{factor, Compiled, map_of, views, names, world, activation, expansion_of}
+use Rattle.metadata_relation.specs.Stages.{IsAt}
 use Rattle.metadata_relation.specs.Steps.{IsCompiled}
 use Rattle.metadata_plan.proofs.Flat.{Comes, move_comes}
 use Rattle.metadata_relation.proofs.Assigning.{assigned, assigns, moved}

@@ -1,6 +1,7 @@
 -- Instructions on integers whose blocks change registers, go one of two ways, or begin a turn.
 use Rattle.std.proofs.Common.{◌≡◌, inl, inr, ℕ, ◌+◌, ◌*◌, ◌^◌, ◌<◌, ◌≤◌, Bool, true, false, not, cond, List, []}
-use Rattle.std.proofs.Common.{◌∷◌, ◌++◌, length, length-append, Option, Some, None, refl, sym, ap, ap₂, ◌∙◌, subst, arith, ltb-true}
+use Rattle.std.proofs.Common.{◌∷◌, ◌++◌, length, length-append, Option, Some, None, refl, sym, ap, ap₂, ◌∙◌, subst}
+use Rattle.std.proofs.Common.{arith, ltb-true}
 use Rattle.std.specs.Prelude.{slice_get, ◌==◌, ◌||◌}
 use Rattle.std.proofs.lemmas.Bool.{eq-eqb}
 use Rattle.sb_base.specs.declared.ending.Ending.TheVariants.{Divide}
@@ -22,16 +23,16 @@ use Rattle.tac_ir.specs.Meaning.{effect, given_in}
 use Rattle.tac_ir.specs.Fitting.{is_word}
 use Rattle.rv_isa.specs.declared.instruction.BranchOp.TheVariants.{Beq, Bne}
 use Rattle.rv_isa.specs.Results.{branch_taken}
-use Rattle.flat_meaning.specs.declared.instruction.RightOperand.TheVariants.{Register, Number}
-use Rattle.flat_meaning.specs.declared.instruction.FlatInstruction.{FlatInstruction}
-use Rattle.flat_meaning.specs.declared.instruction.FlatInstruction.TheVariants.{Branch}
-use Rattle.flat_meaning.specs.Memory.{Bytes}
-use Rattle.flat_meaning.specs.State as flat
-use Rattle.flat_meaning.specs.Calls.{function_in}
-use Rattle.flat_meaning.specs.Meaning.{body_of, instruction_at, weight_of}
-use Rattle.flat_meaning.specs.Words.{IsOfWords}
-use Rattle.flat_routines.specs.Routine.{HasAt}
-use Rattle.flat_routines.proofs.Steps.{has_front, has_back}
+use Rattle.flat_code.specs.declared.instruction.RightOperand.TheVariants.{Register, Number}
+use Rattle.flat_code.specs.declared.instruction.FlatInstruction.{FlatInstruction}
+use Rattle.flat_code.specs.declared.instruction.FlatInstruction.TheVariants.{Branch}
+use Rattle.flat_code.specs.Memory.{Bytes}
+use Rattle.flat_code.specs.State as flat
+use Rattle.flat_code.specs.Calls.{function_in}
+use Rattle.flat_code.specs.Meaning.{body_of, instruction_at, weight_of}
+use Rattle.flat_code.specs.Words.{IsOfWords}
+use Rattle.flat_code.specs.Routines.Routine.{HasAt}
+use Rattle.flat_code.proofs.Routines.Steps.{has_front, has_back}
 use Rattle.metadata_plan.specs.Registers.{most_temporaries}
 use Rattle.metadata_plan.specs.Entries.{given}
 use Rattle.metadata_plan.specs.Expanded.{Leads}
@@ -43,7 +44,8 @@ use Rattle.metadata_relation.specs.Holding.{World, IsTemporary, IsRvalueAt}
 use Rattle.metadata_relation.specs.Stages.{Compiled, map_of, views, names, world, activation, expansion_of, IsAt}
 use Rattle.metadata_plan.proofs.Numbers.{scaled}
 use Rattle.metadata_relation.specs.Steps.{IsCompiled}
-use Rattle.metadata_plan.proofs.Flat.{weight_small, Comes, then_comes, turn_comes, branch_taken_comes, branch_passed_comes}
+use Rattle.metadata_plan.proofs.Flat.{weight_small, Comes, then_comes, turn_comes, branch_taken_comes}
+use Rattle.metadata_plan.proofs.Flat.{branch_passed_comes}
 use Rattle.metadata_plan.proofs.Flat.{leads_comes}
 use Rattle.metadata_plan.proofs.Holding.{IsSet}
 use Rattle.metadata_plan.proofs.Simple.{most_small}

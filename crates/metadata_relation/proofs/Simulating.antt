@@ -11,14 +11,14 @@ use Rattle.tac_ir.specs.declared.instruction.Instruction.{Instruction}
 use Rattle.tac_ir.specs.declared.function.Tac.{Tac}
 use Rattle.tac_ir.specs.Stage.{Temps, Frame, Stage, Begins, Stands, Over, Stuck, seen}
 use Rattle.tac_ir.specs.Meaning.{step, code_of, act_at, objects_before, setting_of_code, first_stage, tac_meaning}
-use Rattle.flat_meaning.specs.Memory.{Bytes, AreBytes, store}
-use Rattle.flat_meaning.specs.State as flat
-use Rattle.flat_meaning.specs.Meaning.{step as flat_step, started, flat_meaning}
-use Rattle.flat_meaning.specs.Words.{HasWords}
-use Rattle.flat_routines.specs.Metadata.{View}
-use Rattle.flat_routines.specs.Objects.StandsFor.{StandsFor, global_lock}
-use Rattle.flat_routines.specs.Objects.Start.{start_keys}
-use Rattle.flat_routines.proofs.Words.{IsLocal}
+use Rattle.flat_code.specs.Memory.{Bytes, AreBytes, store}
+use Rattle.flat_code.specs.State as flat
+use Rattle.flat_code.specs.Meaning.{step as flat_step, started, flat_meaning}
+use Rattle.flat_code.specs.Words.{HasWords}
+use Rattle.flat_code.specs.Routines.Metadata.{View}
+use Rattle.flat_code.specs.Routines.Objects.StandsFor.{StandsFor, global_lock}
+use Rattle.flat_code.specs.Routines.Objects.Start.{start_keys}
+use Rattle.flat_code.proofs.Routines.Words.{IsLocal}
 use Rattle.flat_actions.specs.Actions.{AreSpacesGood}
 use Rattle.metadata_plan.proofs.Flat.{words_kept}
 use Rattle.metadata_plan.proofs.Following.{shown_is}

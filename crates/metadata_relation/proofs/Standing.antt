@@ -17,14 +17,14 @@ use Rattle.tac_ir.specs.declared.function.CodeFunction.{CodeFunction}
 use Rattle.tac_ir.specs.Edges.{LeadsTo}
 use Rattle.tac_ir.specs.Temporaries.{temporaries}
 use Rattle.tac_ir.specs.Stage.{Temps, Frame, Waits, Entered, Stage, Stands, Over}
-use Rattle.flat_meaning.specs.declared.instruction.FlatInstruction.{FlatInstruction}
-use Rattle.flat_meaning.specs.declared.instruction.FlatInstruction.TheVariants.{End}
-use Rattle.flat_meaning.specs.declared.function.FlatFunction.{FlatFunction}
-use Rattle.flat_meaning.specs.Memory.{Bytes}
-use Rattle.flat_meaning.specs.State as flat
-use Rattle.flat_meaning.specs.Calls.{function_in, room_if}
-use Rattle.flat_meaning.specs.Meaning.{body_of, instruction_at, parameters_of, results_of, step, weight_of}
-use Rattle.flat_routines.specs.Routine.{HasAt}
+use Rattle.flat_code.specs.declared.instruction.FlatInstruction.{FlatInstruction}
+use Rattle.flat_code.specs.declared.instruction.FlatInstruction.TheVariants.{End}
+use Rattle.flat_code.specs.declared.function.FlatFunction.{FlatFunction}
+use Rattle.flat_code.specs.Memory.{Bytes}
+use Rattle.flat_code.specs.State as flat
+use Rattle.flat_code.specs.Calls.{function_in, room_if}
+use Rattle.flat_code.specs.Meaning.{body_of, instruction_at, parameters_of, results_of, step, weight_of}
+use Rattle.flat_code.specs.Routines.Routine.{HasAt}
 use Rattle.flat_actions.specs.Actions.{IsShown}
 use Rattle.metadata_plan.specs.Registers.{most_temporaries}
 use Rattle.metadata_plan.specs.Entries.{IsOther, given, AreClosed}

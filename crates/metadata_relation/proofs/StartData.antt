@@ -10,10 +10,10 @@ use Rattle.obj_memory.specs.Heap.{rounded_up}
 use Rattle.obj_memory.specs.Sound.{IsSoundTag, IsSoundObject}
 use Rattle.tac_ir.specs.declared.function.StaticData.{StaticData}
 use Rattle.tac_ir.specs.Meaning.{placed_data}
-use Rattle.flat_routines.specs.Registers.{IsNoneOf}
-use Rattle.flat_routines.specs.Metadata.{Metadata, View}
-use Rattle.flat_routines.specs.Objects.StandsFor.{Views, spell, global_lock}
-use Rattle.flat_routines.specs.Objects.Start.{start_keys}
+use Rattle.flat_code.specs.Routines.Registers.{IsNoneOf}
+use Rattle.flat_code.specs.Routines.Metadata.{Metadata, View}
+use Rattle.flat_code.specs.Routines.Objects.StandsFor.{Views, spell, global_lock}
+use Rattle.flat_code.specs.Routines.Objects.Start.{start_keys}
 use Rattle.shadow_space.specs.declared.start.StartEntry.{StartEntry}
 use Rattle.shadow_space.specs.Start.{metadata_of, words_of, IsStartEntry, AreStartEntries}
 use Rattle.flat_actions.specs.Actions.{views_of}

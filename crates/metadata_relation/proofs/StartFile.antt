@@ -6,7 +6,8 @@ use Rattle.std.proofs.Common.{Bool, false}
 use Rattle.std.specs.Prelude.{replicate, nat_lt}
 use Rattle.std.proofs.lemmas.Bool.{ltb-true, ltb-false, false≢true}
 use Rattle.addr_map.specs.declared.region.Region.TheVariants.{Globals, Shadow}
-use Rattle.addr_map.specs.Places.{MapSizes, AreMapped, objects_begin, spaces_begin, region_start, region_size, region_end}
+use Rattle.addr_map.specs.Places.{MapSizes, AreMapped, objects_begin, spaces_begin, region_start, region_size}
+use Rattle.addr_map.specs.Places.{region_end}
 use Rattle.obj_memory.specs.declared.object.Storage.TheVariants.{Static}
 use Rattle.obj_memory.specs.Objects.{Objects, object_at}
 use Rattle.obj_memory.specs.Heap.{rounded_up, object_room}
@@ -14,13 +15,13 @@ use Rattle.obj_memory.specs.Sound.{IsSoundObject, IsSound, AreDisjoint, AreBesid
 use Rattle.source_meaning.specs.State.{State as Source}
 use Rattle.tac_ir.specs.declared.function.StaticData.{StaticData}
 use Rattle.tac_ir.specs.Meaning.{placed_data}
-use Rattle.flat_meaning.specs.Memory.{Bytes, load, store}
-use Rattle.flat_meaning.specs.State.{State}
-use Rattle.flat_meaning.proofs.Stored.{store_beside, load_stored, kept_beside}
-use Rattle.flat_routines.specs.Metadata.{View, KeepsShadow, IsObjectWord}
-use Rattle.flat_routines.specs.Objects.StandsFor.{global_lock}
-use Rattle.flat_routines.specs.Objects.Start.{start_keys}
-use Rattle.flat_routines.proofs.Regions.{laid_out, spaces_follow}
+use Rattle.flat_code.specs.Memory.{Bytes, load, store}
+use Rattle.flat_code.specs.State.{State}
+use Rattle.flat_code.proofs.Stored.{store_beside, load_stored, kept_beside}
+use Rattle.flat_code.specs.Routines.Metadata.{View, KeepsShadow, IsObjectWord}
+use Rattle.flat_code.specs.Routines.Objects.StandsFor.{global_lock}
+use Rattle.flat_code.specs.Routines.Objects.Start.{start_keys}
+use Rattle.flat_code.proofs.Routines.Regions.{laid_out, spaces_follow}
 use Rattle.shadow_space.specs.declared.start.StartEntry.{StartEntry}
 use Rattle.shadow_space.specs.Start.{IsGlobalWord, AreStartEntries, AreRead}
 use Rattle.lock_space.proofs.Spaces.{locks_laid_out}

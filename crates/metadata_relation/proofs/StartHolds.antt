@@ -21,11 +21,11 @@ use Rattle.source_meaning.proofs.SureMeaning.{start_good, as_many}
 use Rattle.source_meaning.proofs.ValidProgramNames.{valid_names}
 use Rattle.tac_ir.specs.declared.function.StaticData.{StaticData}
 use Rattle.tac_ir.specs.Meaning.{placed_data, objects_before}
-use Rattle.flat_meaning.specs.Memory.{Bytes, store}
-use Rattle.flat_meaning.specs.State.{State}
-use Rattle.flat_routines.specs.Metadata.{View, KeepsShadow, IsObjectWord}
-use Rattle.flat_routines.specs.Objects.StandsFor.{StandsFor, global_lock}
-use Rattle.flat_routines.specs.Objects.Start.{start_keys}
+use Rattle.flat_code.specs.Memory.{Bytes, store}
+use Rattle.flat_code.specs.State.{State}
+use Rattle.flat_code.specs.Routines.Metadata.{View, KeepsShadow, IsObjectWord}
+use Rattle.flat_code.specs.Routines.Objects.StandsFor.{StandsFor, global_lock}
+use Rattle.flat_code.specs.Routines.Objects.Start.{start_keys}
 use Rattle.flat_actions.specs.Actions.{AreSpacesGood, IsFor, IsShown}
 use Rattle.metadata_relation.specs.StartData.{statics_end, HoldsStatics, AreSpacesInFile, entries_of_statics}
 use Rattle.metadata_relation.specs.Stages.{Compiled, map_of, expansion_of, views}

@@ -30,19 +30,19 @@ use Rattle.tac_ir.specs.Costs.{fourfold, heavier, spent}
 use Rattle.tac_ir.specs.Meaning.{effect, text_in}
 use Rattle.tac_ir.specs.Stage.{came, Frame, Stage, Stands, Stuck, Temps}
 use Rattle.tac_ir.proofs.Fits.{only_true}
-use Rattle.flat_meaning.specs.declared.instruction.FlatInstruction.{FlatInstruction}
-use Rattle.flat_meaning.specs.declared.instruction.FlatInstruction.TheVariants.{Constant, Operate, Store}
-use Rattle.flat_meaning.specs.declared.instruction.RightOperand.TheVariants.{Number}
-use Rattle.flat_meaning.specs.Calls.{function_in}
-use Rattle.flat_meaning.specs.Meaning.{body_of}
-use Rattle.flat_meaning.specs.Memory.{Bytes, put}
-use Rattle.flat_meaning.specs.State as flat
-use Rattle.flat_meaning.specs.Words.{HasWords}
-use Rattle.flat_meaning.proofs.Stored.{put_other, put_same}
-use Rattle.flat_routines.specs.Objects.StandsFor.{Keys}
-use Rattle.flat_routines.specs.Registers.{AreBelow}
-use Rattle.flat_routines.specs.Routine.{HasAt}
-use Rattle.flat_routines.proofs.Objects.Changing.{live_is_made}
+use Rattle.flat_code.specs.declared.instruction.FlatInstruction.{FlatInstruction}
+use Rattle.flat_code.specs.declared.instruction.FlatInstruction.TheVariants.{Constant, Operate, Store}
+use Rattle.flat_code.specs.declared.instruction.RightOperand.TheVariants.{Number}
+use Rattle.flat_code.specs.Calls.{function_in}
+use Rattle.flat_code.specs.Meaning.{body_of}
+use Rattle.flat_code.specs.Memory.{Bytes, put}
+use Rattle.flat_code.specs.State as flat
+use Rattle.flat_code.specs.Words.{HasWords}
+use Rattle.flat_code.proofs.Stored.{put_other, put_same}
+use Rattle.flat_code.specs.Routines.Objects.StandsFor.{Keys}
+use Rattle.flat_code.specs.Routines.Registers.{AreBelow}
+use Rattle.flat_code.specs.Routines.Routine.{HasAt}
+use Rattle.flat_code.proofs.Routines.Objects.Changing.{live_is_made}
 use Rattle.flat_actions.specs.Actions.{HasGiven, Nowhere, Word}
 use Rattle.lib_wrappers.specs.declared.accesses.held.HeldScalar.TheVariants.{Integer as HeldInteger}
 use Rattle.lib_wrappers.specs.AccessRoutines.Accessing.{IsToAccess}
@@ -54,7 +54,8 @@ use Rattle.metadata_relation.specs.Registers.{first_free, home_register}
 use Rattle.metadata_relation.specs.Stages.{Compiled, expansion_of, IsAt, map_of, names, views, world}
 use Rattle.metadata_relation.specs.Steps.{IsCompiled}
 use Rattle.metadata_relation.proofs.Accesses.{behind_write, stored}
-use Rattle.metadata_relation.proofs.Acting.{acts_alone, behind_action, HasActed, Reached, reached_by, reached_next, reached_then}
+use Rattle.metadata_relation.proofs.Acting.{acts_alone, behind_action, HasActed, Reached, reached_by, reached_next}
+use Rattle.metadata_relation.proofs.Acting.{reached_then}
 use Rattle.metadata_relation.proofs.Acting.{reached_words}
 use Rattle.metadata_relation.proofs.Finishing.{acted_as, acted_then, acted_worked, ends_with, nothing_done}
 use Rattle.metadata_relation.proofs.Routines.{action_passes, Passes}

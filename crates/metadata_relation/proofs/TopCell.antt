@@ -1,26 +1,28 @@
 -- The cell that has the end of the object stack is written, and nothing else of memory.
-use Rattle.std.proofs.Common.{◌≡◌, ◌≢◌, ℕ, ◌+◌, ◌%◌, ◌^◌, ◌<◌, ◌≤◌, false, not, ◌&&◌, if◌then◌else◌, List, [], ◌∷◌, ◌++◌}
+use Rattle.std.proofs.Common.{◌≡◌, ◌≢◌, ℕ, ◌+◌, ◌%◌, ◌^◌, ◌<◌, ◌≤◌, false, not, ◌&&◌, if◌then◌else◌, List, [], ◌∷◌}
+use Rattle.std.proofs.Common.{◌++◌}
 use Rattle.std.proofs.Common.{Some, sym, ap, ◌∙◌, arith}
 use Rattle.std.specs.Prelude.{nat_le}
 use Rattle.std.proofs.lemmas.Bool.{lt-leb}
 use Rattle.std.proofs.Math.Bool.{and-false}
 use Rattle.behaviours.specs.Shown.{Read, Write}
 use Rattle.addr_map.specs.declared.region.Region.TheVariants.{Cells, Heap, Stack, StructureValues}
-use Rattle.addr_map.specs.Places.{AreMapped, MapSizes, objects_begin, region_end, region_size, region_start, spaces_begin}
+use Rattle.addr_map.specs.Places.{AreMapped, MapSizes, objects_begin, region_end, region_size, region_start}
+use Rattle.addr_map.specs.Places.{spaces_begin}
 use Rattle.rv_isa.specs.declared.instruction.LoadOp.TheVariants.{Ld}
 use Rattle.rv_isa.specs.declared.instruction.StoreOp.TheVariants.{Sd}
 use Rattle.rv_isa.specs.Results.{extended}
-use Rattle.flat_meaning.specs.declared.instruction.FlatInstruction.TheVariants.{Load, Store}
-use Rattle.flat_meaning.specs.declared.function.FlatProgram.{FlatProgram}
-use Rattle.flat_meaning.specs.Calls.{function_in}
-use Rattle.flat_meaning.specs.Meaning.{address_in, at_instruction, body_of, context, Fails, Goes, goes_to, instruction_at}
-use Rattle.flat_meaning.specs.Meaning.{weight_of, with_access, with_register}
-use Rattle.flat_meaning.specs.Memory.{load, put, store}
-use Rattle.flat_meaning.specs.Spaces.{is_allowed, is_of_objects}
-use Rattle.flat_meaning.specs.State as flat
-use Rattle.flat_meaning.proofs.Stored.{put_other, put_same}
-use Rattle.flat_routines.specs.Routine.{HasAt}
-use Rattle.flat_routines.proofs.Spaces.Quiet.{space_allowed}
+use Rattle.flat_code.specs.declared.instruction.FlatInstruction.TheVariants.{Load, Store}
+use Rattle.flat_code.specs.declared.function.FlatProgram.{FlatProgram}
+use Rattle.flat_code.specs.Calls.{function_in}
+use Rattle.flat_code.specs.Meaning.{address_in, at_instruction, body_of, context, Fails, Goes, goes_to, instruction_at}
+use Rattle.flat_code.specs.Meaning.{weight_of, with_access, with_register}
+use Rattle.flat_code.specs.Memory.{load, put, store}
+use Rattle.flat_code.specs.Spaces.{is_allowed, is_of_objects}
+use Rattle.flat_code.specs.State as flat
+use Rattle.flat_code.proofs.Stored.{put_other, put_same}
+use Rattle.flat_code.specs.Routines.Routine.{HasAt}
+use Rattle.flat_code.proofs.Routines.Spaces.Quiet.{space_allowed}
 use Rattle.heap_space.proofs.Regions.{table_laid_out}
 use Rattle.metadata_plan.proofs.Flat.{Comes, constant_comes, then_comes, weight_small}
 use Rattle.metadata_relation.specs.Blocks.{read_top, top_cell, write_top}

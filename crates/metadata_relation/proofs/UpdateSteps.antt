@@ -15,7 +15,8 @@ use Rattle.c_tree.specs.declared.expression.Fixity.{Fixity}
 use Rattle.c_tree.specs.declared.expression.Update.{Update}
 use Rattle.c_tree.specs.declared.expression.Update.TheVariants.{Arithmetic, Forward, Back}
 use Rattle.source_meaning.specs.State.{State, Rvalue, Outcome, done, on}
-use Rattle.source_meaning.specs.Actions.{converted_to, given as given_value, integer, located, moved_back, read_scalar, store}
+use Rattle.source_meaning.specs.Actions.{converted_to, given as given_value, integer, located, moved_back, read_scalar}
+use Rattle.source_meaning.specs.Actions.{store}
 use Rattle.source_meaning.specs.Actions.{update, updated, value_or_divide, write_scalar}
 use Rattle.source_meaning.specs.Keeping.{IsDirect}
 use Rattle.source_meaning.specs.Structures.{as_rvalue, give, rvalue}
@@ -29,9 +30,9 @@ use Rattle.tac_ir.specs.Costs.{cost, spent}
 use Rattle.tac_ir.specs.Fitting.{is_update_of}
 use Rattle.tac_ir.specs.Meaning.{effect, function_in as code_in, given_in, keyed, keys_of, right_value}
 use Rattle.tac_ir.specs.Stage.{came, Frame, Stage, Stands, Stuck, Temps, with_temp}
-use Rattle.flat_meaning.specs.Memory.{Bytes}
-use Rattle.flat_meaning.specs.State as flat
-use Rattle.flat_meaning.specs.Words.{HasWords}
+use Rattle.flat_code.specs.Memory.{Bytes}
+use Rattle.flat_code.specs.State as flat
+use Rattle.flat_code.specs.Words.{HasWords}
 use Rattle.flat_operators.specs.Pointers.{address_back, address_forward}
 use Rattle.metadata_relation.specs.Holding.{IsHeldAt}
 use Rattle.metadata_relation.specs.Registers.{temporary_register}

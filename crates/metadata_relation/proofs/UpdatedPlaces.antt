@@ -1,6 +1,7 @@
 -- Scalars that are updated through the word of a temporary: loaded, changed and stored through the same pointer.
 use Rattle.std.proofs.Common.{◌≡◌, inl, ℕ, ◌+◌, ◌*◌, ◌^◌, ◌<◌, ◌≤◌, Bool, true, false, List, []}
-use Rattle.std.proofs.Common.{◌∷◌, ◌++◌, length, length-append, Option, Some, None, refl, sym, ap, ap₂, ◌∙◌, subst, arith}
+use Rattle.std.proofs.Common.{◌∷◌, ◌++◌, length, length-append, Option, Some, None, refl, sym, ap, ap₂, ◌∙◌, subst}
+use Rattle.std.proofs.Common.{arith}
 use Rattle.std.specs.Prelude.{slice_get}
 use Rattle.std.proofs.lemmas.Bool.{eq-eqb}
 use Rattle.behaviours.specs.Steps.{run}
@@ -38,26 +39,27 @@ use Rattle.tac_ir.specs.Costs.{cost, spent}
 use Rattle.tac_ir.specs.Temporaries.{right_count}
 use Rattle.tac_ir.specs.Meaning.{right_value}
 use Rattle.tac_ir.specs.Stage.{Frame, Over, Stage, Stands, Temps, with_temp}
-use Rattle.flat_meaning.specs.declared.instruction.FlatInstruction.{FlatInstruction}
-use Rattle.flat_meaning.specs.declared.instruction.FlatInstruction.TheVariants as flat_code
-use Rattle.flat_meaning.specs.Calls.{function_in}
-use Rattle.flat_meaning.specs.Meaning.{body_of, context, step}
-use Rattle.flat_meaning.specs.Memory.{Bytes, put}
-use Rattle.flat_meaning.specs.State as flat
-use Rattle.flat_meaning.specs.Words.{HasWords}
-use Rattle.flat_meaning.proofs.Stored.{put_other, put_same}
-use Rattle.flat_routines.specs.declared.registers.Entry.{Entry}
-use Rattle.flat_routines.specs.InputOutput.{IsWithoutInputOutput}
-use Rattle.flat_routines.specs.Metadata.{entry_registers, held_registers, metadata_in}
-use Rattle.flat_routines.specs.Objects.StandsFor.{Keys, spell}
-use Rattle.flat_routines.specs.Registers.{AreBelow, AreDistinct, AreNoneOf}
-use Rattle.flat_routines.specs.Routine.{HasAt}
-use Rattle.flat_routines.proofs.Steps.{has_back, has_front}
-use Rattle.flat_routines.proofs.Words.{same_metadata}
+use Rattle.flat_code.specs.declared.instruction.FlatInstruction.{FlatInstruction}
+use Rattle.flat_code.specs.declared.instruction.FlatInstruction.TheVariants as flat_code
+use Rattle.flat_code.specs.Calls.{function_in}
+use Rattle.flat_code.specs.Meaning.{body_of, context, step}
+use Rattle.flat_code.specs.Memory.{Bytes, put}
+use Rattle.flat_code.specs.State as flat
+use Rattle.flat_code.specs.Words.{HasWords}
+use Rattle.flat_code.proofs.Stored.{put_other, put_same}
+use Rattle.flat_code.specs.declared.registers.Entry.{Entry}
+use Rattle.flat_code.specs.Routines.InputOutput.{IsWithoutInputOutput}
+use Rattle.flat_code.specs.Routines.Metadata.{entry_registers, held_registers, metadata_in}
+use Rattle.flat_code.specs.Routines.Objects.StandsFor.{Keys, spell}
+use Rattle.flat_code.specs.Routines.Registers.{AreBelow, AreDistinct, AreNoneOf}
+use Rattle.flat_code.specs.Routines.Routine.{HasAt}
+use Rattle.flat_code.proofs.Routines.Steps.{has_back, has_front}
+use Rattle.flat_code.proofs.Routines.Words.{same_metadata}
 use Rattle.flat_actions.specs.Actions.{HasGiven, Nowhere, Pointer as InPointer, Word}
 use Rattle.flat_actions.proofs.Standing.{for_worked}
 use Rattle.lib_wrappers.specs.declared.accesses.held.HeldScalar.{HeldScalar}
-use Rattle.lib_wrappers.specs.declared.accesses.held.HeldScalar.TheVariants.{Integer as HeldInteger, Pointer as HeldPointer}
+use Rattle.lib_wrappers.specs.declared.accesses.held.HeldScalar.TheVariants.{Integer as HeldInteger}
+use Rattle.lib_wrappers.specs.declared.accesses.held.HeldScalar.TheVariants.{Pointer as HeldPointer}
 use Rattle.lib_wrappers.specs.AccessRoutines.Accessing.{IsToAccess}
 use Rattle.runtime_functions.specs.Library.{held_from}
 use Rattle.metadata_plan.specs.Expanded.{Leads}
@@ -74,7 +76,8 @@ use Rattle.metadata_relation.specs.Registers.{first_free, temporary_register}
 use Rattle.metadata_relation.specs.Stages.{Compiled, IsAt, map_of, views, world}
 use Rattle.metadata_relation.specs.Steps.{IsCompiled}
 use Rattle.metadata_relation.proofs.Accesses.{behind_read, behind_write, loaded}
-use Rattle.metadata_relation.proofs.Acting.{acts_giving, behind_action, HasActed, Reached, reached_computed, reached_next}
+use Rattle.metadata_relation.proofs.Acting.{acts_giving, behind_action, HasActed, Reached, reached_computed}
+use Rattle.metadata_relation.proofs.Acting.{reached_next}
 use Rattle.metadata_relation.proofs.Acting.{reached_then, reached_words}
 use Rattle.metadata_relation.proofs.Assigning.{assigned}
 use Rattle.metadata_relation.proofs.Finishing.{acted_as, acted_then, AreFew, beside_ne, beside_wider, ends_with}

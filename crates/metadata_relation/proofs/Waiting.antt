@@ -13,9 +13,9 @@ use Rattle.source_meaning.specs.Good.{EndsMade}
 use Rattle.source_meaning.proofs.Holding.{live_made}
 use Rattle.tac_ir.specs.declared.function.CodeFunction.{CodeFunction}
 use Rattle.tac_ir.specs.Stage.{Frame, Waits, Entered}
-use Rattle.flat_meaning.specs.Memory.{Bytes}
-use Rattle.flat_meaning.specs.State as flat
-use Rattle.flat_routines.specs.Objects.StandsFor.{Views, Keys, StandsFor}
+use Rattle.flat_code.specs.Memory.{Bytes}
+use Rattle.flat_code.specs.State as flat
+use Rattle.flat_code.specs.Routines.Objects.StandsFor.{Views, Keys, StandsFor}
 use Rattle.flat_actions.proofs.Standing.{keeps_same}
 use Rattle.lib_wrappers.specs.AllocatingRoutines.Entering.{IsHomeOf, AreOfLock}
 use Rattle.lib_wrappers.proofs.AllocatingRoutines.OuterBlocks.{still_of_lock}

@@ -25,21 +25,22 @@ use Rattle.tac_ir.specs.Costs.{cost, fourfold, heavier, spent}
 use Rattle.tac_ir.specs.Fitting.{is_of_type, is_scalar_of}
 use Rattle.tac_ir.specs.Meaning.{effect, function_in as code_in, given_in, keyed, keys_of}
 use Rattle.tac_ir.specs.Stage.{came, Frame, Stage, Stands, Stuck, Temps, with_temp}
-use Rattle.flat_meaning.specs.declared.instruction.FlatInstruction.{FlatInstruction}
-use Rattle.flat_meaning.specs.declared.instruction.FlatInstruction.TheVariants.{Move}
-use Rattle.flat_meaning.specs.Calls.{function_in}
-use Rattle.flat_meaning.specs.Meaning.{body_of}
-use Rattle.flat_meaning.specs.Memory.{Bytes}
-use Rattle.flat_meaning.specs.State as flat
-use Rattle.flat_meaning.specs.Words.{IsOfWords}
-use Rattle.flat_routines.specs.Objects.StandsFor.{Keys}
-use Rattle.flat_routines.specs.Registers.{AreBelow}
-use Rattle.flat_routines.specs.Routine.{HasAt}
-use Rattle.flat_routines.proofs.Steps.{has_back, has_front}
+use Rattle.flat_code.specs.declared.instruction.FlatInstruction.{FlatInstruction}
+use Rattle.flat_code.specs.declared.instruction.FlatInstruction.TheVariants.{Move}
+use Rattle.flat_code.specs.Calls.{function_in}
+use Rattle.flat_code.specs.Meaning.{body_of}
+use Rattle.flat_code.specs.Memory.{Bytes}
+use Rattle.flat_code.specs.State as flat
+use Rattle.flat_code.specs.Words.{IsOfWords}
+use Rattle.flat_code.specs.Routines.Objects.StandsFor.{Keys}
+use Rattle.flat_code.specs.Routines.Registers.{AreBelow}
+use Rattle.flat_code.specs.Routines.Routine.{HasAt}
+use Rattle.flat_code.proofs.Routines.Steps.{has_back, has_front}
 use Rattle.flat_actions.specs.Actions.{HasGiven, IsFor, IsHeldBy, Nowhere, registers_of, Word}
 use Rattle.flat_actions.proofs.Standing.{for_worked}
 use Rattle.lib_wrappers.specs.declared.accesses.held.HeldScalar.{HeldScalar}
-use Rattle.lib_wrappers.specs.declared.accesses.held.HeldScalar.TheVariants.{Integer as HeldInteger, Pointer as HeldPointer}
+use Rattle.lib_wrappers.specs.declared.accesses.held.HeldScalar.TheVariants.{Integer as HeldInteger}
+use Rattle.lib_wrappers.specs.declared.accesses.held.HeldScalar.TheVariants.{Pointer as HeldPointer}
 use Rattle.lib_wrappers.specs.AccessRoutines.Accessing.{IsToAccess, store_steps}
 use Rattle.lib_wrappers.specs.AccessRoutines.Holding.{holder_in, scalar_in}
 use Rattle.runtime_functions.specs.Library.{held_from}

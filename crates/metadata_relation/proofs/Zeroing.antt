@@ -17,16 +17,16 @@ use Rattle.tac_ir.specs.Costs.{fourfold, heavier, spent}
 use Rattle.tac_ir.specs.Meaning.{effect}
 use Rattle.tac_ir.specs.Stage.{came, Frame, Stage, Stands, Stuck, Temps}
 use Rattle.tac_ir.proofs.Fits.{only_true}
-use Rattle.flat_meaning.specs.declared.instruction.FlatInstruction.{FlatInstruction}
-use Rattle.flat_meaning.specs.declared.instruction.FlatInstruction.TheVariants.{Call, Move}
-use Rattle.flat_meaning.specs.Calls.{function_in}
-use Rattle.flat_meaning.specs.Meaning.{body_of}
-use Rattle.flat_meaning.specs.Memory.{Bytes, put}
-use Rattle.flat_meaning.specs.State as flat
-use Rattle.flat_meaning.specs.Words.{HasWords}
-use Rattle.flat_meaning.proofs.Stored.{put_other, put_same}
-use Rattle.flat_routines.specs.Routine.{HasAt}
-use Rattle.flat_routines.proofs.Steps.{has_back, has_front}
+use Rattle.flat_code.specs.declared.instruction.FlatInstruction.{FlatInstruction}
+use Rattle.flat_code.specs.declared.instruction.FlatInstruction.TheVariants.{Call, Move}
+use Rattle.flat_code.specs.Calls.{function_in}
+use Rattle.flat_code.specs.Meaning.{body_of}
+use Rattle.flat_code.specs.Memory.{Bytes, put}
+use Rattle.flat_code.specs.State as flat
+use Rattle.flat_code.specs.Words.{HasWords}
+use Rattle.flat_code.proofs.Stored.{put_other, put_same}
+use Rattle.flat_code.specs.Routines.Routine.{HasAt}
+use Rattle.flat_code.proofs.Routines.Steps.{has_back, has_front}
 use Rattle.flat_actions.specs.Actions.{Nowhere}
 use Rattle.runtime_functions.specs.declared.runtime.RuntimeFunction.TheVariants.{Zero}
 use Rattle.runtime_functions.specs.Actions.{steps_of, work_of_call}
@@ -41,7 +41,8 @@ use Rattle.metadata_relation.specs.Registers.{first_free, home_register}
 use Rattle.metadata_relation.specs.Scopes.{context_at}
 use Rattle.metadata_relation.specs.Stages.{Compiled, expansion_of, IsAt, map_of, names, world}
 use Rattle.metadata_relation.specs.Steps.{IsCompiled}
-use Rattle.metadata_relation.proofs.Acting.{acts_alone, behind_action, reached_by, reached_computed, reached_then, reached_words}
+use Rattle.metadata_relation.proofs.Acting.{acts_alone, behind_action, reached_by, reached_computed, reached_then}
+use Rattle.metadata_relation.proofs.Acting.{reached_words}
 use Rattle.metadata_relation.proofs.Finishing.{acted_as, acted_then, acted_worked, ends_with, nothing_done}
 use Rattle.metadata_relation.proofs.RuntimeCalls.{completes, runtime_call, site}
 use Rattle.metadata_relation.proofs.Standing.{good_now, IsNode, node, Result}

@@ -19,7 +19,8 @@ use Rattle.c_tree.specs.declared.expression.Update.TheVariants.{Arithmetic, Forw
 use Rattle.c_tree.specs.declared.expression.Fixity.{Fixity}
 use Rattle.c_tree.specs.declared.expression.Fixity.TheVariants.{Prefix, Postfix}
 use Rattle.c_tree.specs.declared.expression.OffsetForm.{OffsetForm}
-use Rattle.c_tree.specs.declared.expression.OffsetForm.TheVariants.{PointerPlusIndex, IndexPlusPointer, PointerMinusIndex}
+use Rattle.c_tree.specs.declared.expression.OffsetForm.TheVariants.{PointerPlusIndex, IndexPlusPointer}
+use Rattle.c_tree.specs.declared.expression.OffsetForm.TheVariants.{PointerMinusIndex}
 use Rattle.c_tree.specs.declared.expression.Routine.{Routine}
 use Rattle.c_tree.specs.declared.expression.Routine.TheVariants as routine
 use Rattle.c_tree.specs.declared.program.Variable.{Variable}
@@ -47,22 +48,24 @@ use Rattle.rv_isa.specs.declared.instruction.RegOp.TheVariants.{Add, And, Sll, S
 use Rattle.rv_isa.specs.declared.instruction.LoadOp.TheVariants.{Ld}
 use Rattle.rv_isa.specs.declared.instruction.StoreOp.TheVariants.{Sb, Sd}
 use Rattle.rv_isa.specs.declared.instruction.BranchOp.TheVariants.{Beq, Bne, Bltu}
-use Rattle.flat_meaning.specs.declared.instruction.RightOperand.{RightOperand as FlatOperand}
-use Rattle.flat_meaning.specs.declared.instruction.RightOperand.TheVariants.{Register, Number}
-use Rattle.flat_meaning.specs.declared.instruction.FlatInstruction.{FlatInstruction}
-use Rattle.flat_meaning.specs.declared.instruction.FlatInstruction.TheVariants.{Constant, Move, Operate, Load, Store}
-use Rattle.flat_meaning.specs.declared.instruction.FlatInstruction.TheVariants.{Branch, Turn, Call, Return, Get, Put, Exit}
-use Rattle.flat_meaning.specs.declared.instruction.FlatInstruction.TheVariants.{CallAddress, Charged, End}
-use Rattle.flat_routines.specs.declared.registers.Entry.{Entry}
+use Rattle.flat_code.specs.declared.instruction.RightOperand.{RightOperand as FlatOperand}
+use Rattle.flat_code.specs.declared.instruction.RightOperand.TheVariants.{Register, Number}
+use Rattle.flat_code.specs.declared.instruction.FlatInstruction.{FlatInstruction}
+use Rattle.flat_code.specs.declared.instruction.FlatInstruction.TheVariants.{Constant, Move, Operate, Load, Store}
+use Rattle.flat_code.specs.declared.instruction.FlatInstruction.TheVariants.{Branch, Turn, Call, Return, Get, Put, Exit}
+use Rattle.flat_code.specs.declared.instruction.FlatInstruction.TheVariants.{CallAddress, Charged, End}
+use Rattle.flat_code.specs.declared.registers.Entry.{Entry}
 use Rattle.lib_wrappers.specs.declared.accesses.held.HeldScalar.{HeldScalar}
-use Rattle.lib_wrappers.specs.declared.accesses.held.HeldScalar.TheVariants.{Integer as HeldInteger, Pointer as HeldPointer}
+use Rattle.lib_wrappers.specs.declared.accesses.held.HeldScalar.TheVariants.{Integer as HeldInteger}
+use Rattle.lib_wrappers.specs.declared.accesses.held.HeldScalar.TheVariants.{Pointer as HeldPointer}
 use Rattle.lib_wrappers.specs.AccessRoutines.Accessing.{no_entry}
 use Rattle.lib_wrappers.specs.AllocatingRoutines.Allocating.{keys_code, key_test}
 use Rattle.lib_wrappers.specs.AllocatingRoutines.Entering.{round_code, block_bytes}
 use Rattle.runtime_functions.specs.declared.library.LibraryFunction.{LibraryFunction}
 use Rattle.runtime_functions.specs.declared.library.LibraryFunction.TheVariants as library
 use Rattle.runtime_functions.specs.declared.status.ReturnStatus.{ReturnStatus}
-use Rattle.runtime_functions.specs.declared.status.ReturnStatus.TheVariants.{Spatial as SpatialStatus, Temporal as TemporalStatus}
+use Rattle.runtime_functions.specs.declared.status.ReturnStatus.TheVariants.{Spatial as SpatialStatus}
+use Rattle.runtime_functions.specs.declared.status.ReturnStatus.TheVariants.{Temporal as TemporalStatus}
 use Rattle.runtime_functions.specs.declared.status.ReturnStatus.TheVariants.{BadFree, Stack as StackSpent}
 use Rattle.runtime_functions.specs.declared.status.ReturnStatus.TheVariants.{Keys as KeysSpent}
 use Rattle.runtime_functions.specs.Library.{Passed, NoValue, OneWord, WithEntry, register_count, held_from, signature}
@@ -76,7 +79,8 @@ use Rattle.metadata_relation.specs.FunctionTypes.{first_of_type}
 use Rattle.metadata_relation.specs.InlineCode.{InlineCode}
 use Rattle.metadata_relation.specs.Printing.{print_code, scan_statuses}
 use Rattle.metadata_relation.specs.Structures.{copy_code}
-use Rattle.metadata_relation.specs.Registers.{passed_as, parameters_end, area_words, result_words, variable_words, total}
+use Rattle.metadata_relation.specs.Registers.{passed_as, parameters_end, area_words, result_words, variable_words}
+use Rattle.metadata_relation.specs.Registers.{total}
 use Rattle.metadata_relation.specs.Registers.{variable_register, home_register, home_entry, lock_register, top_register}
 use Rattle.metadata_relation.specs.Registers.{temporary_register, moved_register, first_free}
 

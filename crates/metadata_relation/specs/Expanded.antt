@@ -5,12 +5,12 @@ use Rattle.addr_map.specs.Places.{MapSizes, region_size}
 use Rattle.tac_ir.specs.declared.instruction.Instruction.{Instruction}
 use Rattle.tac_ir.specs.declared.function.CodeFunction.{CodeFunction}
 use Rattle.tac_ir.specs.Edges.{successors}
-use Rattle.flat_meaning.specs.declared.instruction.FlatInstruction.{FlatInstruction}
-use Rattle.flat_meaning.specs.declared.function.FlatFunction.{FlatFunction}
-use Rattle.flat_meaning.specs.Calls.{function_in}
-use Rattle.flat_meaning.specs.Memory.{Bytes}
-use Rattle.flat_routines.specs.Metadata.{View}
-use Rattle.flat_routines.specs.Routine.{HasAt}
+use Rattle.flat_code.specs.declared.instruction.FlatInstruction.{FlatInstruction}
+use Rattle.flat_code.specs.declared.function.FlatFunction.{FlatFunction}
+use Rattle.flat_code.specs.Calls.{function_in}
+use Rattle.flat_code.specs.Memory.{Bytes}
+use Rattle.flat_code.specs.Routines.Metadata.{View}
+use Rattle.flat_code.specs.Routines.Routine.{HasAt}
 use Rattle.runtime_functions.specs.declared.runtime.RuntimeFunction.{RuntimeFunction}
 use Rattle.runtime_functions.specs.Runtime.{runtime_list, IsOfRuntime}
 use Rattle.metadata_plan.specs.Entries.{AreAllClosed}

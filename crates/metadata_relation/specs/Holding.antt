@@ -1,6 +1,7 @@
 -- What the registers of a function hold: words, pointers with their metadata, the homes of objects, and the contents of
 -- structures in areas.
-use Rattle.std.specs.Prelude.{◌≡◌, ℕ, ◌+◌, ◌-◌, ◌*◌, ◌<◌, ◌≤◌, Bool, true, false, List, [], ◌∷◌, length, get_or, Option, Some, None}
+use Rattle.std.specs.Prelude.{◌≡◌, ℕ, ◌+◌, ◌-◌, ◌*◌, ◌<◌, ◌≤◌, Bool, true, false, List, [], ◌∷◌, length, get_or, Option}
+use Rattle.std.specs.Prelude.{Some, None}
 use Rattle.std.specs.Prelude.{zero, suc}
 use Rattle.addr_map.specs.declared.region.Region.TheVariants.{StructureValues}
 use Rattle.addr_map.specs.Places.{MapSizes, region_end, region_start}
@@ -22,10 +23,10 @@ use Rattle.tac_ir.specs.declared.function.CodeFunction.{CodeFunction}
 use Rattle.tac_ir.specs.declared.function.Tac.{Tac}
 use Rattle.tac_ir.specs.Stage.{Temps}
 use Rattle.tac_ir.specs.Structures.{greatest_structure, structures_below}
-use Rattle.flat_meaning.specs.Memory.{Bytes}
-use Rattle.flat_meaning.specs.State.{Values}
-use Rattle.flat_routines.specs.Metadata.{metadata_in}
-use Rattle.flat_routines.specs.Objects.StandsFor.{Views, Keys, Spells, spell}
+use Rattle.flat_code.specs.Memory.{Bytes}
+use Rattle.flat_code.specs.State.{Values}
+use Rattle.flat_code.specs.Routines.Metadata.{metadata_in}
+use Rattle.flat_code.specs.Routines.Objects.StandsFor.{Views, Keys, Spells, spell}
 use Rattle.flat_actions.specs.Actions.{KeepsHeld}
 use Rattle.lib_wrappers.specs.AreaRoutines.Areas.{IsArea, IsAreaPlace, HoldsPart}
 use Rattle.runtime_functions.specs.Library.{held_from}

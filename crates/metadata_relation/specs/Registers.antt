@@ -7,7 +7,7 @@ use Rattle.c_tree.specs.declared.expression.Kind.{Kind}
 use Rattle.c_tree.specs.declared.expression.Kind.TheVariants.{Void, Scalar as OfScalar, Structure, Array}
 use Rattle.c_tree.specs.declared.program.Variable.{Variable}
 use Rattle.tac_ir.specs.declared.function.CodeFunction.{CodeFunction}
-use Rattle.flat_routines.specs.declared.registers.Entry.{Entry}
+use Rattle.flat_code.specs.declared.registers.Entry.{Entry}
 use Rattle.runtime_functions.specs.Library.{Passed, OneWord, WithEntry, register_count}
 use Rattle.metadata_plan.specs.Registers.{words_of, all_variables, most_temporaries}
 

@@ -11,14 +11,14 @@ use Rattle.source_meaning.specs.Meaning.{fresh}
 use Rattle.tac_ir.specs.declared.function.CodeFunction.{CodeFunction}
 use Rattle.tac_ir.specs.Stage.{Temps, Frame, Stage, Begins, Stands, Over}
 use Rattle.tac_ir.specs.Meaning.{objects_before}
-use Rattle.flat_meaning.specs.Memory.{Bytes, load, store}
-use Rattle.flat_meaning.specs.State as flat
-use Rattle.flat_meaning.specs.Calls.{charged}
-use Rattle.flat_meaning.specs.Meaning.{started}
-use Rattle.flat_meaning.specs.Words.{HasWords}
-use Rattle.flat_routines.specs.Metadata.{View}
-use Rattle.flat_routines.specs.Objects.StandsFor.{Views, Keys, StandsFor, global_lock}
-use Rattle.flat_routines.specs.Objects.Start.{start_keys}
+use Rattle.flat_code.specs.Memory.{Bytes, load, store}
+use Rattle.flat_code.specs.State as flat
+use Rattle.flat_code.specs.Calls.{charged}
+use Rattle.flat_code.specs.Meaning.{started}
+use Rattle.flat_code.specs.Words.{HasWords}
+use Rattle.flat_code.specs.Routines.Metadata.{View}
+use Rattle.flat_code.specs.Routines.Objects.StandsFor.{Views, Keys, StandsFor, global_lock}
+use Rattle.flat_code.specs.Routines.Objects.Start.{start_keys}
 use Rattle.flat_actions.specs.Actions.{views_of, AreSpacesGood, IsShown, IsFor}
 use Rattle.lib_wrappers.specs.AllocatingRoutines.Premises.{HaveBytes}
 use Rattle.metadata_relation.specs.Blocks.{Expansion, top_cell}

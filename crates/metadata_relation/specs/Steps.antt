@@ -30,10 +30,10 @@ use Rattle.tac_ir.specs.declared.function.Tac.{Tac}
 use Rattle.tac_ir.specs.Fitting.{is_word}
 use Rattle.tac_ir.specs.Meaning.{function_in, header_of_code, objects_before, objects_in, text_in}
 use Rattle.tac_ir.specs.Stage.{Stage}
-use Rattle.flat_meaning.specs.Memory.{Bytes}
-use Rattle.flat_meaning.specs.State as flat
-use Rattle.flat_routines.specs.Metadata.{IsObjectWord, KeepsShadow}
-use Rattle.flat_meaning.specs.Meaning.{step}
+use Rattle.flat_code.specs.Memory.{Bytes}
+use Rattle.flat_code.specs.State as flat
+use Rattle.flat_code.specs.Routines.Metadata.{IsObjectWord, KeepsShadow}
+use Rattle.flat_code.specs.Meaning.{step}
 use Rattle.lib_wrappers.specs.AllocatingRoutines.Entering.{block_bytes}
 use Rattle.metadata_plan.specs.Registers.{all_variables}
 use Rattle.metadata_relation.specs.Blocks.{is_short, objects_of_body, result_of}

@@ -9,10 +9,10 @@ use Rattle.rv_isa.specs.declared.instruction.RegOp.TheVariants.{Add}
 use Rattle.tac_ir.specs.declared.function.CodeFunction.{CodeFunction}
 use Rattle.tac_ir.specs.declared.function.Tac.{Tac}
 use Rattle.tac_ir.specs.Structures.{structures_below}
-use Rattle.flat_meaning.specs.declared.instruction.RightOperand.TheVariants.{Number, Register}
-use Rattle.flat_meaning.specs.declared.instruction.FlatInstruction.{FlatInstruction}
-use Rattle.flat_meaning.specs.declared.instruction.FlatInstruction.TheVariants.{Branch, Call, Charged, Constant}
-use Rattle.flat_meaning.specs.declared.instruction.FlatInstruction.TheVariants.{JumpForward, Move, Operate}
+use Rattle.flat_code.specs.declared.instruction.RightOperand.TheVariants.{Number, Register}
+use Rattle.flat_code.specs.declared.instruction.FlatInstruction.{FlatInstruction}
+use Rattle.flat_code.specs.declared.instruction.FlatInstruction.TheVariants.{Branch, Call, Charged, Constant}
+use Rattle.flat_code.specs.declared.instruction.FlatInstruction.TheVariants.{JumpForward, Move, Operate}
 use Rattle.lib_wrappers.specs.AreaRoutines.Areas.{whole_words}
 use Rattle.runtime_functions.specs.Library.{held_from}
 use Rattle.metadata_plan.specs.Operators.{OperatorCode}

@@ -1,7 +1,7 @@
 //! The function with which a run begins.
 
 ghost use Rattle.std.specs.Prelude.{◌≡◌, ◌+◌, ◌<◌, ◌≤◌, ◌^◌, ◌++◌, ◌∷◌, [], IfOk, OnOk, length, Some, slice_get};
-ghost use Rattle.flat_meaning.specs.declared.instruction.FlatInstruction.TheVariants.{Constant as Number, Store as Stored};
+ghost use Rattle.flat_code.specs.declared.instruction.FlatInstruction.TheVariants.{Constant as Number, Store as Stored};
 ghost use Rattle.lib_wrappers.specs.AllocatingRoutines.Entering.{block_bytes};
 ghost use Rattle.tac_ir.specs.Meaning.{function_in};
 ghost use Rattle.rv_isa.specs.declared.instruction.StoreOp.TheVariants.{Sd};
@@ -11,7 +11,7 @@ ghost use Rattle.program_expansion.specs.Limits.{AreWithinLimits};
 
 use crate::list::put;
 use addr_map::{AddrMap, Region};
-use flat_meaning::{FlatFunction, FlatInstruction};
+use flat_code::{FlatFunction, FlatInstruction};
 use instruction_selection::call_tests::{put_call_tests, put_object_tests};
 use instruction_selection::calls::body_objects;
 use rv_isa::StoreOp;

@@ -10,7 +10,7 @@ use crate::error::ExpandError;
 use crate::homes::homes;
 use crate::source::FunctionBlocks;
 use crate::tables::Tables;
-use flat_meaning::{FlatFunction, FlatInstruction};
+use flat_code::{FlatFunction, FlatInstruction};
 use instruction_selection::calls::{result_of, result_words, taken_words};
 use instruction_selection::{FunctionContext, Registers};
 use metadata_expansion::body::put_body;

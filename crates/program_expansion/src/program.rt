@@ -1,7 +1,8 @@
 //! The expansion of a program.
 
 ghost use Rattle.std.specs.Prelude.{◌<◌, ◌^◌, IfErr, IfOk, length};
-ghost use Rattle.program_expansion.specs.Expansions.{AreAllFunctionsOf, AreFunctionsOf, IsExpansionOf, Refuses, types_by};
+ghost use Rattle.program_expansion.specs.Expansions.{AreAllFunctionsOf, AreFunctionsOf, IsExpansionOf, Refuses};
+ghost use Rattle.program_expansion.specs.Expansions.{types_by};
 ghost use Rattle.program_expansion.specs.Tables.{AreTables};
 
 use crate::entry::entry_function;
@@ -11,7 +12,7 @@ use crate::limits::{are_within_limits, function_at};
 use crate::list::{joined, push};
 use crate::tables::Tables;
 use addr_map::AddrMap;
-use flat_meaning::{FlatFunction, FlatProgram};
+use flat_code::{FlatFunction, FlatProgram};
 use instruction_selection::statics::static_places;
 use instruction_selection::type_keys::type_keys;
 use shadow_space::ShadowForm;

@@ -6,7 +6,7 @@ ghost use Rattle.instruction_selection.specs.Contexts.{IsPrepared};
 ghost use Rattle.instruction_selection.specs.Selected.{entry_behind};
 ghost use Rattle.program_expansion.specs.Expansions.{CanPutIn, begin_in, block_in};
 
-use flat_meaning::FlatInstruction;
+use flat_code::FlatInstruction;
 use instruction_selection::bodies::put_prologue;
 use instruction_selection::{FunctionContext, put_instruction};
 use metadata_expansion::EntryTable;

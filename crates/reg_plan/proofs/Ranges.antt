@@ -11,8 +11,8 @@ use Rattle.data_flow.specs.declared.relation.Relation.{Relation}
 use Rattle.data_flow.specs.declared.runs.Run.{Run}
 use Rattle.data_flow.specs.Relations.{Has, IsRelated}
 use Rattle.data_flow.specs.Reached.{IsReached, Begins, Flows}
-use Rattle.flat_meaning.specs.declared.instruction.FlatInstruction.{FlatInstruction}
-use Rattle.flat_meaning.specs.declared.function.FlatProgram.{FlatProgram}
+use Rattle.flat_code.specs.declared.instruction.FlatInstruction.{FlatInstruction}
+use Rattle.flat_code.specs.declared.function.FlatProgram.{FlatProgram}
 use Rattle.reg_plan.specs.declared.plan.LiveInterval.{LiveInterval}
 use Rattle.reg_plan.specs.declared.flow.Problem.{Problem}
 use Rattle.reg_plan.specs.Needs.{IsNeeded, Read, Made, Before}

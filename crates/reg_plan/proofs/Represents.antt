@@ -1,13 +1,14 @@
 -- The problem that an instruction more gives, and what its solutions are.
-use Rattle.std.proofs.Common.{◌≡◌, ℕ, ◌+◌, inl, inr, ⊎_elim, List, length, Some, None, Option, true, false, refl, sym, ap, ◌∙◌, subst, arith}
+use Rattle.std.proofs.Common.{◌≡◌, ℕ, ◌+◌, inl, inr, ⊎_elim, List, length, Some, None, Option, true, false, refl, sym}
+use Rattle.std.proofs.Common.{ap, ◌∙◌, subst, arith}
 use Rattle.std.proofs.Common.{true≢false}
 use Rattle.std.specs.Prelude.{slice_get}
 use Rattle.std.proofs.lemmas.Bool.{cases_lt, le-leb, le-ltb}
 use Rattle.std.proofs.lemmas.Option.{slice_get_within}
 use Rattle.data_flow.specs.Relations.{IsRelated, images}
 use Rattle.data_flow.specs.Reached.{IsReached, Begins, Flows}
-use Rattle.flat_meaning.specs.declared.instruction.FlatInstruction.{FlatInstruction}
-use Rattle.flat_meaning.specs.declared.function.FlatProgram.{FlatProgram}
+use Rattle.flat_code.specs.declared.instruction.FlatInstruction.{FlatInstruction}
+use Rattle.flat_code.specs.declared.function.FlatProgram.{FlatProgram}
 use Rattle.reg_plan.specs.declared.flow.Problem.{Problem}
 use Rattle.reg_plan.specs.Effects.{is_among, is_read, read_by, made_by, makes_only, unless_only, always_made_by}
 use Rattle.reg_plan.specs.Effects.{none, next_of, taken_of, Leads}

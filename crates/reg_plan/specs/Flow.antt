@@ -4,8 +4,8 @@ use Rattle.std.specs.Prelude.{◌≡◌, ℕ, ◌<◌, ◌+◌, ◌^◌, ◌⊎�
 use Rattle.data_flow.specs.declared.runs.Run.{Run}
 use Rattle.data_flow.specs.declared.relation.Relation.{Relation}
 use Rattle.data_flow.specs.Relations.{IsRelated}
-use Rattle.flat_meaning.specs.declared.instruction.FlatInstruction.{FlatInstruction}
-use Rattle.flat_meaning.specs.declared.function.FlatProgram.{FlatProgram}
+use Rattle.flat_code.specs.declared.instruction.FlatInstruction.{FlatInstruction}
+use Rattle.flat_code.specs.declared.function.FlatProgram.{FlatProgram}
 use Rattle.reg_plan.specs.declared.flow.Problem.{Problem}
 use Rattle.reg_plan.specs.Needs.{ReadsAt, MakesAt, AlwaysMakesAt, LeadsAt}
 

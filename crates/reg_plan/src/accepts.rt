@@ -3,7 +3,7 @@
 
 ghost use Rattle.std.specs.Prelude.{◌≡◌, ◌<◌, ◌≤◌, ◌+◌, ◌*◌, ◌^◌, ℕ, Option, length, Some, true};
 ghost use Rattle.std.specs.Prelude.{false, slice_get};
-ghost use Rattle.flat_meaning.specs.declared.function.FlatFunction.{FlatFunction};
+ghost use Rattle.flat_code.specs.declared.function.FlatFunction.{FlatFunction};
 ghost use Rattle.reg_plan.specs.declared.plan.Place.{Place};
 ghost use Rattle.reg_plan.specs.declared.plan.Place.TheVariants.{Register};
 ghost use Rattle.reg_plan.specs.Accepted.{covers, is_live, IsLive, HasHome, IsAccepted};
@@ -15,7 +15,7 @@ use crate::apart::{are_kept_apart, home_of, overlap, place_of, range_of};
 use crate::closed::{is_closed, is_live};
 use crate::plan::{FunctionPlan, LiveInterval, Place, Plan, REGISTERS};
 use crate::record::record_bytes;
-use flat_meaning::{FlatFunction, FlatProgram};
+use flat_code::{FlatFunction, FlatProgram};
 
 // Whether a live range has one of the first so many instructions.
 fn is_somewhere(range: &[LiveInterval], count: u64) -> bool

@@ -9,7 +9,7 @@ ghost use Rattle.reg_plan.specs.Colours.{range_of};
 ghost use Rattle.reg_plan.specs.Tests.{Meet, AreApart, IsPlaced};
 
 use crate::plan::{FunctionPlan, LiveInterval, Place};
-use flat_meaning::FlatFunction;
+use flat_code::FlatFunction;
 
 // Whether two intervals have an instruction in common, one of the first so many.
 pub(crate) fn overlap(left: LiveInterval, right: LiveInterval, count: u64) -> bool

@@ -2,8 +2,9 @@
 
 ghost use Rattle.std.specs.Prelude.{◌≡◌, ◌<◌, ◌≤◌, ◌^◌, ◌+◌, ◌&&◌, ℕ, length, Some, true, false};
 ghost use Rattle.std.specs.Prelude.{not, slice_get};
-ghost use Rattle.flat_meaning.specs.declared.instruction.FlatInstruction.{FlatInstruction};
-ghost use Rattle.reg_plan.specs.Effects.{is_among, is_read, read_by, made_by, makes_only, always_made_by, next_of, taken_of};
+ghost use Rattle.flat_code.specs.declared.instruction.FlatInstruction.{FlatInstruction};
+ghost use Rattle.reg_plan.specs.Effects.{is_among, is_read, read_by, made_by, makes_only, always_made_by, next_of};
+ghost use Rattle.reg_plan.specs.Effects.{taken_of};
 ghost use Rattle.reg_plan.specs.Accepted.{holds, covers, is_live, IsLive};
 ghost use Rattle.reg_plan.specs.Tests.{Flows, IsWanted, IsClosedAt};
 
@@ -11,7 +12,7 @@ use crate::effects::{
     Reads, Span, always_made_by, made_by, makes_only, next_of, read_by, taken_of,
 };
 use crate::plan::{FunctionPlan, LiveInterval};
-use flat_meaning::{FlatInstruction, FlatProgram};
+use flat_code::{FlatInstruction, FlatProgram};
 
 // Whether an interval has an instruction.
 fn holds(interval: LiveInterval, place: u64) -> bool

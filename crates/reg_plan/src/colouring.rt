@@ -13,7 +13,7 @@ ghost use Rattle.reg_plan.specs.Registers.{registers_given_out};
 use crate::copies::{Votes, copies_of};
 use crate::occupied::{is_free, occupy};
 use crate::plan::{LiveInterval, Place, REGISTERS};
-use flat_meaning::FlatInstruction;
+use flat_code::FlatInstruction;
 use std::alloc::{AllocError, Global};
 
 // Whether a register is in use at no instruction of a live range.

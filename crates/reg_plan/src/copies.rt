@@ -4,7 +4,7 @@ ghost use Rattle.std.specs.Prelude.{◌≡◌, ℕ, IfOk, length};
 
 use crate::plan::{Place, REGISTERS};
 use data_flow::Relation;
-use flat_meaning::FlatInstruction;
+use flat_code::FlatInstruction;
 use std::alloc::{AllocError, Global};
 
 // Relates a virtual register to another, if both have homes.

@@ -3,10 +3,10 @@
 ghost use Rattle.std.specs.Prelude.{◌≡◌, ◌<◌, ◌^◌};
 ghost use Rattle.reg_plan.specs.Effects.{one, none, many, two, operand, read_by, made_by, next_of, taken_of};
 ghost use Rattle.reg_plan.specs.Effects.{makes_only, unless_only, always_made_by};
-ghost use Rattle.flat_meaning.specs.Calls.{function_in};
-ghost use Rattle.flat_meaning.specs.Meaning.{parameters_of, results_of};
+ghost use Rattle.flat_code.specs.Calls.{function_in};
+ghost use Rattle.flat_code.specs.Meaning.{parameters_of, results_of};
 
-use flat_meaning::{FlatInstruction, FlatProgram, RightOperand};
+use flat_code::{FlatInstruction, FlatProgram, RightOperand};
 
 /// So many virtual registers from one on.
 #[derive(Clone, Copy)]
@@ -150,8 +150,8 @@ pub fn made_by(program: &FlatProgram, instruction: &FlatInstruction) -> Span
     }
 }
 
-/// The virtual register that is all an instruction changes, if it changes no more than one: nothing is done for it where
-/// that is not needed.
+/// The virtual register that is all an instruction changes, if it changes no more than one: nothing is done for it
+/// where that is not needed.
 pub fn makes_only(instruction: &FlatInstruction) -> Option<u32>
     ensures { result ≡ makes_only instruction.now }
 {

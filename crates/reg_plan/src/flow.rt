@@ -3,13 +3,13 @@
 ghost use Rattle.std.specs.Prelude.{◌≡◌, ◌<◌, ◌≤◌, ◌+◌, ◌^◌, ◌⊎◌, ℕ, IfOk, OnOk, length, Some};
 ghost use Rattle.std.specs.Prelude.{true, slice_get};
 ghost use Rattle.data_flow.specs.Relations.{IsRelated};
-ghost use Rattle.flat_meaning.specs.declared.instruction.FlatInstruction.{FlatInstruction};
+ghost use Rattle.flat_code.specs.declared.instruction.FlatInstruction.{FlatInstruction};
 ghost use Rattle.reg_plan.specs.Effects.{is_among, is_read, read_by, made_by, always_made_by, next_of, taken_of};
 ghost use Rattle.reg_plan.specs.Flow.{Gains, AddsSuccessor, Represents, IsNamed, HasSizes};
 
 use crate::effects::{Reads, Span, always_made_by, made_by, next_of, read_by, taken_of};
 use data_flow::Relation;
-use flat_meaning::{FlatInstruction, FlatProgram};
+use flat_code::{FlatInstruction, FlatProgram};
 use std::alloc::{AllocError, Global};
 
 /// The problem: facts are virtual registers, nodes are instructions.

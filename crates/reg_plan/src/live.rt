@@ -14,7 +14,7 @@ use crate::flow::{Problem, problem_of};
 use crate::intervals::intervals;
 use crate::plan::LiveInterval;
 use data_flow::{NodeSet, Stretches, least_runs};
-use flat_meaning::{FlatInstruction, FlatProgram};
+use flat_code::{FlatInstruction, FlatProgram};
 use std::alloc::{AllocError, Global};
 
 // The numbers of a list, sorted.
@@ -77,8 +77,8 @@ fn live_range(
 }
 
 /// The live ranges of the virtual registers of a function, so many of which have homes: each is exactly where its
-/// value is needed. It takes time for the instructions, for what they read and make and for the intervals, each with the
-/// logarithm of the instructions.
+/// value is needed. It takes time for the instructions, for what they read and make and for the intervals, each with
+/// the logarithm of the instructions.
 pub fn live_ranges(
     alloc: Global,
     program: &FlatProgram,

@@ -1,13 +1,13 @@
 //! Plans of all functions of a program.
 
 ghost use Rattle.std.specs.Prelude.{◌≡◌, ◌<◌, ◌^◌, ℕ, IfOk, length, Some, slice_get};
-ghost use Rattle.flat_meaning.specs.declared.function.FlatFunction.{FlatFunction};
+ghost use Rattle.flat_code.specs.declared.function.FlatFunction.{FlatFunction};
 ghost use Rattle.reg_plan.specs.Planned.{IsPlannable, ArePlannable, IsPlanOfSlots, IsPlanOfRegisters, ArePlanned};
 
 use crate::colouring::{all_at_home, coloured};
 use crate::live::live_ranges;
 use crate::plan::{FunctionPlan, Plan};
-use flat_meaning::{FlatFunction, FlatProgram};
+use flat_code::{FlatFunction, FlatProgram};
 use std::alloc::{AllocError, Global};
 
 // The plan of one function that keeps all values in their homes.

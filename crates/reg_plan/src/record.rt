@@ -1,9 +1,9 @@
 //! How many bytes an activation record has.
 
 ghost use Rattle.std.specs.Prelude.{◌≡◌};
-ghost use Rattle.flat_meaning.specs.Calls.{record_bytes};
+ghost use Rattle.flat_code.specs.Calls.{record_bytes};
 
-use flat_meaning::FlatFunction;
+use flat_code::FlatFunction;
 
 /// The bytes of the activation record of a function.
 pub fn record_bytes(function: &FlatFunction) -> u128

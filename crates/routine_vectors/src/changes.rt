@@ -5,7 +5,7 @@ use crate::memory::{Memory, OBJECTS, SPACES};
 use crate::objects::{Metadata, NONE, Objects};
 use crate::shown::metadata_given;
 use addr_map::{AddrMap, Region};
-use flat_meaning::FlatInstruction;
+use flat_code::FlatInstruction;
 use std::alloc::AllocError;
 
 /// Writes the bytes of object space that changed, each run of them behind its address.

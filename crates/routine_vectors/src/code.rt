@@ -10,10 +10,9 @@ use crate::routine::{
 use addr_map::AddrMap;
 use c_tree::Directive;
 use flat_actions::{give_instructions, joined, narrow};
-use flat_meaning::{FlatInstruction, RightOperand};
+use flat_code::{Entry, FlatInstruction, Held, RightOperand};
 use flat_operators::binary::Registers;
 use flat_operators::pointers::{put_back, put_difference, put_forward};
-use flat_routines::{Entry, Held};
 use lib_wrappers::accesses::{
     HeldScalar, checked_load, checked_store, load, spatial_check, store, temporal_check,
 };

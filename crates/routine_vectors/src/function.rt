@@ -2,7 +2,7 @@
 
 use crate::machine::{Left, Machine, REGISTERS};
 use anyhow::{Result, bail};
-use flat_meaning::{FlatFunction, FlatInstruction};
+use flat_code::{FlatFunction, FlatInstruction};
 use runtime_functions::{ReturnStatus, RuntimeFrame, runtime_function};
 use sb_base::Line;
 use std::alloc::{AllocError, Global};

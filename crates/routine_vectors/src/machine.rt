@@ -2,7 +2,7 @@
 
 use crate::memory::{Memory, SPACES};
 use crate::operators::{branched, load_size, loaded, operated, operated32, store_size};
-use flat_meaning::{FlatInstruction, RightOperand};
+use flat_code::{FlatInstruction, RightOperand};
 use sb_base::Ending;
 use std::alloc::{AllocError, Global};
 

@@ -12,7 +12,7 @@ use crate::routine::{Given, Piece, RoutineCall, directive_named, routine_named, 
 use crate::shown::{write_given, write_left, write_registers, write_shown, write_steps};
 use addr_map::{AddrMap, Region};
 use anyhow::{Context, Result, bail};
-use flat_meaning::FlatInstruction;
+use flat_code::FlatInstruction;
 use shadow_space::{ShadowForm, StartEntry};
 use std::alloc::{AllocError, Global};
 use std::mem::swap;

@@ -14,24 +14,24 @@ use Rattle.obj_memory.specs.Objects.{Objects}
 use Rattle.source_meaning.specs.State.{State as Source, Outcome as Completed, Gives, Ended, Paused, Run}
 use Rattle.source_meaning.specs.Acting.{state_of}
 use Rattle.source_meaning.specs.Lines.{RunsAlikeAt, outcome_at, ending_at as at_line_of}
-use Rattle.flat_meaning.specs.declared.instruction.FlatInstruction.{FlatInstruction}
-use Rattle.flat_meaning.specs.declared.function.FlatFunction.{FlatFunction}
-use Rattle.flat_meaning.specs.declared.function.FlatProgram.{FlatProgram}
-use Rattle.flat_meaning.specs.Memory.{Bytes}
-use Rattle.flat_meaning.specs.State.{State, Stage, Over}
-use Rattle.flat_meaning.specs.Calls.{function_in}
-use Rattle.flat_meaning.specs.Words.{IsOfWords}
-use Rattle.flat_meaning.specs.Meaning.{Context, Goes, context, is_runtime_function}
-use Rattle.flat_routines.specs.Local.{local_run}
-use Rattle.flat_routines.specs.Registers.{IsNoneOf}
-use Rattle.flat_routines.specs.Routine.{Outcome, Continues, Halts, Does, left_at}
-use Rattle.flat_routines.specs.Laws.{work_of as work_left, report_length}
-use Rattle.flat_routines.specs.InputOutput.{has_input_output}
-use Rattle.flat_routines.specs.Metadata.{View, ShowsNothing}
-use Rattle.flat_routines.specs.Objects.StandsFor.{Views, Keys}
-use Rattle.flat_routines.proofs.Steps.{has_self, has_back}
-use Rattle.flat_routines.proofs.Words.{same_metadata}
-use Rattle.flat_routines.proofs.Work.{work_within, work_of_weight}
+use Rattle.flat_code.specs.declared.instruction.FlatInstruction.{FlatInstruction}
+use Rattle.flat_code.specs.declared.function.FlatFunction.{FlatFunction}
+use Rattle.flat_code.specs.declared.function.FlatProgram.{FlatProgram}
+use Rattle.flat_code.specs.Memory.{Bytes}
+use Rattle.flat_code.specs.State.{State, Stage, Over}
+use Rattle.flat_code.specs.Calls.{function_in}
+use Rattle.flat_code.specs.Words.{IsOfWords}
+use Rattle.flat_code.specs.Meaning.{Context, Goes, context, is_runtime_function}
+use Rattle.flat_code.specs.Routines.Local.{local_run}
+use Rattle.flat_code.specs.Routines.Registers.{IsNoneOf}
+use Rattle.flat_code.specs.Routines.Routine.{Outcome, Continues, Halts, Does, left_at}
+use Rattle.flat_code.specs.Routines.Laws.{work_of as work_left, report_length}
+use Rattle.flat_code.specs.Routines.InputOutput.{has_input_output}
+use Rattle.flat_code.specs.Routines.Metadata.{View, ShowsNothing}
+use Rattle.flat_code.specs.Routines.Objects.StandsFor.{Views, Keys}
+use Rattle.flat_code.proofs.Routines.Steps.{has_self, has_back}
+use Rattle.flat_code.proofs.Routines.Words.{same_metadata}
+use Rattle.flat_code.proofs.Routines.Work.{work_within, work_of_weight}
 use Rattle.flat_actions.specs.Actions.{views_of, IsShown, IsFor, Holder, Nowhere, Word}
 use Rattle.flat_actions.specs.Actions.{Pointer, registers_of, IsHeldBy, AreHeldBy, IsGivenIn, HasGiven, HasEnded}
 use Rattle.flat_actions.specs.Actions.{Leaves, work_of}
@@ -39,7 +39,8 @@ use Rattle.flat_actions.proofs.Standing.{for_still, shown_still}
 use Rattle.runtime_functions.specs.Functions.{zeros, with_zeros, cleared_registers}
 use Rattle.runtime_functions.specs.declared.status.ReturnStatus.{ReturnStatus}
 use Rattle.runtime_functions.specs.Status.{return_status, status_number, ending_at}
-use Rattle.runtime_functions.specs.Calls.{CallSite, waits_at, begins_in, CallsRuntime, HasReturned, Reports, Returned, calling_steps}
+use Rattle.runtime_functions.specs.Calls.{CallSite, waits_at, begins_in, CallsRuntime, HasReturned, Reports, Returned}
+use Rattle.runtime_functions.specs.Calls.{calling_steps}
 use Rattle.runtime_functions.specs.Calls.{Exited, IsCalled, ComesOfCall}
 use Rattle.runtime_functions.specs.Actions.{over_registers, argument_register, result_register, AreParameters}
 use Rattle.runtime_functions.specs.Actions.{AreResults, AreTaken, Interface, price_of, IsActionFunction}

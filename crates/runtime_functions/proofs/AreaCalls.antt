@@ -10,16 +10,16 @@ use Rattle.c_tree.specs.declared.expression.Kind.TheVariants.{Structure}
 use Rattle.source_meaning.specs.State.{State as Source, Outcome as Completed, Gives, Ended, Paused, Rvalue, Run, on}
 use Rattle.source_meaning.specs.Actions.{integer, place_or_stop}
 use Rattle.source_meaning.specs.Structures.{taken, make_zero, put_contents}
-use Rattle.flat_meaning.specs.declared.instruction.FlatInstruction.{FlatInstruction}
-use Rattle.flat_meaning.specs.declared.function.FlatFunction.{FlatFunction}
-use Rattle.flat_meaning.specs.declared.function.FlatProgram.{FlatProgram}
-use Rattle.flat_meaning.specs.Memory.{Bytes, KeepsBut}
-use Rattle.flat_meaning.specs.State.{State, Stage}
-use Rattle.flat_routines.specs.InputOutput.{IsWithoutInputOutput}
-use Rattle.flat_routines.specs.Routine.{Outcome, Continues, Halts, Does}
-use Rattle.flat_routines.specs.Laws.{work_of as work_left, report_length}
-use Rattle.flat_routines.specs.Metadata.{View}
-use Rattle.flat_routines.specs.Objects.StandsFor.{Views, Keys}
+use Rattle.flat_code.specs.declared.instruction.FlatInstruction.{FlatInstruction}
+use Rattle.flat_code.specs.declared.function.FlatFunction.{FlatFunction}
+use Rattle.flat_code.specs.declared.function.FlatProgram.{FlatProgram}
+use Rattle.flat_code.specs.Memory.{Bytes, KeepsBut}
+use Rattle.flat_code.specs.State.{State, Stage}
+use Rattle.flat_code.specs.Routines.InputOutput.{IsWithoutInputOutput}
+use Rattle.flat_code.specs.Routines.Routine.{Outcome, Continues, Halts, Does}
+use Rattle.flat_code.specs.Routines.Laws.{work_of as work_left, report_length}
+use Rattle.flat_code.specs.Routines.Metadata.{View}
+use Rattle.flat_code.specs.Routines.Objects.StandsFor.{Views, Keys}
 use Rattle.flat_actions.specs.Actions.{views_of, IsFor, Nowhere, Leaves}
 use Rattle.lib_wrappers.specs.AreaRoutines.Areas.{IsAreaPlace, IsArea, HoldsPart, area_bytes}
 use Rattle.lib_wrappers.specs.AreaRoutines.Zeroing.{IsToZeroArea}

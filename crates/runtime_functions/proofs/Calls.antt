@@ -11,33 +11,34 @@ use Rattle.behaviours.specs.Steps.{run}
 use Rattle.behaviours.proofs.Running.{run_add}
 use Rattle.addr_map.specs.declared.region.Region.TheVariants.{RuntimeCalls}
 use Rattle.addr_map.specs.Places.{MapSizes, region_size}
-use Rattle.flat_meaning.specs.declared.instruction.FlatInstruction.{FlatInstruction}
-use Rattle.flat_meaning.specs.declared.instruction.FlatInstruction.TheVariants.{Constant, Move, Operate, Operate32}
-use Rattle.flat_meaning.specs.declared.instruction.FlatInstruction.TheVariants.{Load, Store, Branch, JumpForward}
-use Rattle.flat_meaning.specs.declared.instruction.FlatInstruction.TheVariants.{JumpBack, Turn, Call, CallAddress}
-use Rattle.flat_meaning.specs.declared.instruction.FlatInstruction.TheVariants.{Return, Get, Put, Exit, End, Charged}
-use Rattle.flat_meaning.specs.declared.function.FlatFunction.{FlatFunction}
-use Rattle.flat_meaning.specs.declared.function.FlatProgram.{FlatProgram}
-use Rattle.flat_meaning.specs.Memory.{put}
-use Rattle.flat_meaning.specs.State.{Values, State, Frame, Stage, Stands, Over, Stuck}
-use Rattle.flat_meaning.specs.Calls.{function_in, room_if, rooms, arguments, with_results}
-use Rattle.flat_meaning.specs.Meaning.{Context, Local, Goes, Ends, Leaves, Fails, local, context, step, at_instruction}
-use Rattle.flat_meaning.specs.Meaning.{instruction_at, body_of, parameters_of, results_of, has_room, weight_of, enters}
-use Rattle.flat_meaning.proofs.Stored.{put_same, put_other}
-use Rattle.flat_routines.specs.Local.{local_run, local_step, act, counted}
-use Rattle.flat_routines.specs.Routine.{Outcome, Continues, Halts, left_at}
-use Rattle.flat_routines.specs.Lifted.{stage_of}
-use Rattle.flat_routines.specs.ExitStubs.{DoesWithStubs, EndsThere, AtStub, ComesToStub}
-use Rattle.flat_routines.proofs.ExitStubs.{stubbed}
-use Rattle.flat_routines.proofs.Lifted.{lifted}
-use Rattle.flat_routines.proofs.Steps.{has_front, has_self, run_add as local_run_add}
+use Rattle.flat_code.specs.declared.instruction.FlatInstruction.{FlatInstruction}
+use Rattle.flat_code.specs.declared.instruction.FlatInstruction.TheVariants.{Constant, Move, Operate, Operate32}
+use Rattle.flat_code.specs.declared.instruction.FlatInstruction.TheVariants.{Load, Store, Branch, JumpForward}
+use Rattle.flat_code.specs.declared.instruction.FlatInstruction.TheVariants.{JumpBack, Turn, Call, CallAddress}
+use Rattle.flat_code.specs.declared.instruction.FlatInstruction.TheVariants.{Return, Get, Put, Exit, End, Charged}
+use Rattle.flat_code.specs.declared.function.FlatFunction.{FlatFunction}
+use Rattle.flat_code.specs.declared.function.FlatProgram.{FlatProgram}
+use Rattle.flat_code.specs.Memory.{put}
+use Rattle.flat_code.specs.State.{Values, State, Frame, Stage, Stands, Over, Stuck}
+use Rattle.flat_code.specs.Calls.{function_in, room_if, rooms, arguments, with_results}
+use Rattle.flat_code.specs.Meaning.{Context, Local, Goes, Ends, Leaves, Fails, local, context, step, at_instruction}
+use Rattle.flat_code.specs.Meaning.{instruction_at, body_of, parameters_of, results_of, has_room, weight_of, enters}
+use Rattle.flat_code.proofs.Stored.{put_same, put_other}
+use Rattle.flat_code.specs.Routines.Local.{local_run, local_step, act, counted}
+use Rattle.flat_code.specs.Routines.Routine.{Outcome, Continues, Halts, left_at}
+use Rattle.flat_code.specs.Routines.Lifted.{stage_of}
+use Rattle.flat_code.specs.Routines.ExitStubs.{DoesWithStubs, EndsThere, AtStub, ComesToStub}
+use Rattle.flat_code.proofs.Routines.ExitStubs.{stubbed}
+use Rattle.flat_code.proofs.Routines.Lifted.{lifted}
+use Rattle.flat_code.proofs.Routines.Steps.{has_front, has_self, run_add as local_run_add}
 use Rattle.runtime_functions.specs.declared.status.ReturnStatus.{ReturnStatus}
 use Rattle.runtime_functions.specs.Status.{return_status, status_number}
 use Rattle.runtime_functions.specs.Functions.{stub_place, function_body, zeros, with_zeros, cleared_registers}
 use Rattle.runtime_functions.specs.Calls.{CallSite, waits_at, enters_in, begins_in, CallsRuntime, HasReturned, Returned}
 use Rattle.runtime_functions.specs.Calls.{Exited, ComesOfCall, calling_steps}
 use Rattle.runtime_functions.proofs.Zeros.{zeros_run}
-use Rattle.runtime_functions.proofs.Stubs.{numbered, has_return, has_stub, place_by, stub_of, has_exit_stubs, stays_without}
+use Rattle.runtime_functions.proofs.Stubs.{numbered, has_return, has_stub, place_by, stub_of, has_exit_stubs}
+use Rattle.runtime_functions.proofs.Stubs.{stays_without}
 
 -- ---- a run that ends with a report ends at an ending
 

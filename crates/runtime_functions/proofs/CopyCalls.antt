@@ -11,16 +11,16 @@ use Rattle.source_meaning.specs.Keeping.{IsDirect}
 use Rattle.source_meaning.specs.Library.{argument}
 use Rattle.source_meaning.specs.Lines.{outcome_at}
 use Rattle.source_meaning.proofs.Holding.{direct_allowed}
-use Rattle.flat_meaning.specs.declared.instruction.FlatInstruction.{FlatInstruction}
-use Rattle.flat_meaning.specs.declared.function.FlatFunction.{FlatFunction}
-use Rattle.flat_meaning.specs.declared.function.FlatProgram.{FlatProgram}
-use Rattle.flat_meaning.specs.Memory.{Bytes}
-use Rattle.flat_meaning.specs.State.{State}
-use Rattle.flat_meaning.specs.Meaning.{Goes}
-use Rattle.flat_routines.specs.Routine.{Outcome, Continues, Halts, Either, Never}
-use Rattle.flat_routines.specs.Metadata.{View}
-use Rattle.flat_routines.proofs.Rules.{weaken}
-use Rattle.flat_routines.specs.Objects.StandsFor.{Keys}
+use Rattle.flat_code.specs.declared.instruction.FlatInstruction.{FlatInstruction}
+use Rattle.flat_code.specs.declared.function.FlatFunction.{FlatFunction}
+use Rattle.flat_code.specs.declared.function.FlatProgram.{FlatProgram}
+use Rattle.flat_code.specs.Memory.{Bytes}
+use Rattle.flat_code.specs.State.{State}
+use Rattle.flat_code.specs.Meaning.{Goes}
+use Rattle.flat_code.specs.Routines.Routine.{Outcome, Continues, Halts, Either, Never}
+use Rattle.flat_code.specs.Routines.Metadata.{View}
+use Rattle.flat_code.proofs.Routines.Rules.{weaken}
+use Rattle.flat_code.specs.Routines.Objects.StandsFor.{Keys}
 use Rattle.flat_actions.specs.Actions.{IsActionIn, Leaves, IsFor, Nowhere, Word, runtime_basis, views_of, work_of}
 use Rattle.flat_actions.specs.Ranges.{IsObjectRange, HasMovedTagged, IsTaggedMoveRoutine}
 use Rattle.lib_wrappers.proofs.MovingRoutines.Bytes.{in_runtime}

@@ -8,17 +8,17 @@ use Rattle.source_meaning.specs.State.{State as Source, Outcome as Completed, Gi
 use Rattle.source_meaning.specs.Acting.{state_of}
 use Rattle.source_meaning.specs.Blocks.{Block, enter_block}
 use Rattle.source_meaning.specs.Lines.{RunsAlikeAt, outcome_at}
-use Rattle.flat_meaning.specs.declared.instruction.FlatInstruction.{FlatInstruction}
-use Rattle.flat_meaning.specs.declared.function.FlatFunction.{FlatFunction}
-use Rattle.flat_meaning.specs.declared.function.FlatProgram.{FlatProgram}
-use Rattle.flat_meaning.specs.Memory.{Bytes}
-use Rattle.flat_meaning.specs.State.{State, Stage}
-use Rattle.flat_routines.specs.Registers.{IsNoneOf}
-use Rattle.flat_routines.specs.Routine.{Outcome, Continues, Halts}
-use Rattle.flat_routines.specs.Laws.{work_of as work_left, report_length}
-use Rattle.flat_routines.specs.InputOutput.{IsWithoutInputOutput}
-use Rattle.flat_routines.specs.Metadata.{View}
-use Rattle.flat_routines.specs.Objects.StandsFor.{Views, Keys}
+use Rattle.flat_code.specs.declared.instruction.FlatInstruction.{FlatInstruction}
+use Rattle.flat_code.specs.declared.function.FlatFunction.{FlatFunction}
+use Rattle.flat_code.specs.declared.function.FlatProgram.{FlatProgram}
+use Rattle.flat_code.specs.Memory.{Bytes}
+use Rattle.flat_code.specs.State.{State, Stage}
+use Rattle.flat_code.specs.Routines.Registers.{IsNoneOf}
+use Rattle.flat_code.specs.Routines.Routine.{Outcome, Continues, Halts}
+use Rattle.flat_code.specs.Routines.Laws.{work_of as work_left, report_length}
+use Rattle.flat_code.specs.Routines.InputOutput.{IsWithoutInputOutput}
+use Rattle.flat_code.specs.Routines.Metadata.{View}
+use Rattle.flat_code.specs.Routines.Objects.StandsFor.{Views, Keys}
 use Rattle.flat_actions.specs.Actions.{views_of, IsFor, work_of}
 use Rattle.lib_wrappers.specs.AllocatingRoutines.Entering.{block_bytes, AreOfLock, CanEnter, HasEntered, IsEntered}
 use Rattle.lib_wrappers.specs.AllocatingRoutines.Entering.{IsEnterRoutine}
@@ -26,7 +26,8 @@ use Rattle.runtime_functions.specs.Calls.{CallSite, begins_in, CallsRuntime, Has
 use Rattle.runtime_functions.specs.Actions.{price_of, work_of_call, ComesBehind}
 use Rattle.runtime_functions.specs.Runtime.{entered_registers}
 use Rattle.runtime_functions.specs.Entering.{IsToEnter, IsBlockServed, entering_steps, ServesBlock}
-use Rattle.runtime_functions.proofs.Actions.{serves_in_runtime, begins_for, argument_is, status_is_zero, result_is, memory_is}
+use Rattle.runtime_functions.proofs.Actions.{serves_in_runtime, begins_for, argument_is, status_is_zero, result_is}
+use Rattle.runtime_functions.proofs.Actions.{memory_is}
 use Rattle.runtime_functions.proofs.LibraryCalls.{price_alone}
 use Rattle.runtime_functions.proofs.Actions.{returned_for, behind, told, same_state}
 

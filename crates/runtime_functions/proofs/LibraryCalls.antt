@@ -6,19 +6,19 @@ use Rattle.obj_memory.specs.declared.value.Value.{Value}
 use Rattle.source_meaning.specs.State.{State as Source, Setting}
 use Rattle.source_meaning.specs.Library.{routine}
 use Rattle.source_meaning.specs.Lines.{RunsAlikeAt}
-use Rattle.flat_meaning.specs.declared.instruction.FlatInstruction.{FlatInstruction}
-use Rattle.flat_meaning.specs.declared.function.FlatFunction.{FlatFunction}
-use Rattle.flat_meaning.specs.declared.function.FlatProgram.{FlatProgram}
-use Rattle.flat_meaning.specs.Memory.{Bytes}
-use Rattle.flat_meaning.specs.State.{State}
-use Rattle.flat_meaning.specs.Meaning.{Context}
-use Rattle.flat_routines.specs.Routine.{Does, Outcome}
-use Rattle.flat_routines.specs.Metadata.{View}
-use Rattle.flat_routines.specs.InputOutput.{has_input_output, IsWithoutInputOutput}
-use Rattle.flat_routines.specs.Shape.{HasShape}
-use Rattle.flat_routines.proofs.Shape.{more}
+use Rattle.flat_code.specs.declared.instruction.FlatInstruction.{FlatInstruction}
+use Rattle.flat_code.specs.declared.function.FlatFunction.{FlatFunction}
+use Rattle.flat_code.specs.declared.function.FlatProgram.{FlatProgram}
+use Rattle.flat_code.specs.Memory.{Bytes}
+use Rattle.flat_code.specs.State.{State}
+use Rattle.flat_code.specs.Meaning.{Context}
+use Rattle.flat_code.specs.Routines.Routine.{Does, Outcome}
+use Rattle.flat_code.specs.Routines.Metadata.{View}
+use Rattle.flat_code.specs.Routines.InputOutput.{has_input_output, IsWithoutInputOutput}
+use Rattle.flat_code.specs.Routines.Shape.{HasShape}
+use Rattle.flat_code.proofs.Routines.Shape.{more}
 use Rattle.runtime_functions.specs.Sizes.{most_registers}
-use Rattle.flat_routines.specs.Objects.StandsFor.{Keys}
+use Rattle.flat_code.specs.Routines.Objects.StandsFor.{Keys}
 use Rattle.flat_actions.specs.Actions.{IsAction, runtime_basis, registers_of, views_of}
 use Rattle.lib_wrappers.specs.AllocatingRoutines.Premises.{AreStanding}
 use Rattle.runtime_functions.specs.declared.library.LibraryFunction.{LibraryFunction}

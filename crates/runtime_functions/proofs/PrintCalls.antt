@@ -14,15 +14,15 @@ use Rattle.source_meaning.specs.Bytes.{look}
 use Rattle.source_meaning.specs.Strings.{reach, scan_within, scan}
 use Rattle.source_meaning.specs.Lines.{RunsAlikeAt, outcome_at}
 use Rattle.source_meaning.proofs.Lines.{lines_on, lines_done, lines_choose, lines_basic, lines_located}
-use Rattle.flat_meaning.specs.declared.instruction.FlatInstruction.{FlatInstruction}
-use Rattle.flat_meaning.specs.declared.function.FlatFunction.{FlatFunction}
-use Rattle.flat_meaning.specs.declared.function.FlatProgram.{FlatProgram}
-use Rattle.flat_meaning.specs.Memory.{Bytes}
-use Rattle.flat_meaning.specs.State.{State, Stage}
-use Rattle.flat_routines.specs.Routine.{Outcome, Continues, Halts, Does, Either, Never}
-use Rattle.flat_routines.specs.Laws.{work_of as work_left, report_length}
-use Rattle.flat_routines.specs.Metadata.{View}
-use Rattle.flat_routines.specs.Objects.StandsFor.{Views, Keys, StandsFor}
+use Rattle.flat_code.specs.declared.instruction.FlatInstruction.{FlatInstruction}
+use Rattle.flat_code.specs.declared.function.FlatFunction.{FlatFunction}
+use Rattle.flat_code.specs.declared.function.FlatProgram.{FlatProgram}
+use Rattle.flat_code.specs.Memory.{Bytes}
+use Rattle.flat_code.specs.State.{State, Stage}
+use Rattle.flat_code.specs.Routines.Routine.{Outcome, Continues, Halts, Does, Either, Never}
+use Rattle.flat_code.specs.Routines.Laws.{work_of as work_left, report_length}
+use Rattle.flat_code.specs.Routines.Metadata.{View}
+use Rattle.flat_code.specs.Routines.Objects.StandsFor.{Views, Keys, StandsFor}
 use Rattle.flat_actions.specs.Actions.{views_of, runtime_basis, Pointer, IsHeldBy, IsFor, HasEnded, work_of}
 use Rattle.flat_actions.specs.Scanning.{IsWorked, HasScanned, IsScanned, IsScanRoutine}
 use Rattle.flat_actions.proofs.Standing.{for_still, for_worked, good_still}
@@ -40,7 +40,8 @@ use Rattle.runtime_functions.specs.Printing.{HasGoneBehind, IsToScan, IsScanServ
 use Rattle.runtime_functions.specs.Printing.{scanning_steps, ServesScan, IsToPutBytes, with_bytes, putting_steps}
 use Rattle.runtime_functions.specs.Printing.{ServesPut, IsToPutArgument, HasPutArgument, number_steps, ServesArgument}
 use Rattle.runtime_functions.proofs.Actions.{serves_in_runtime, begins_for, argument_at, argument_held}
-use Rattle.runtime_functions.proofs.Actions.{status_is_zero, result_is, memory_is, returned_for, behind, told, same_state}
+use Rattle.runtime_functions.proofs.Actions.{status_is_zero, result_is, memory_is, returned_for, behind, told}
+use Rattle.runtime_functions.proofs.Actions.{same_state}
 use Rattle.runtime_functions.proofs.LibraryCalls.{price_at_most}
 
 -- ---- a scan does the same at each line

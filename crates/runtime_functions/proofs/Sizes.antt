@@ -5,16 +5,16 @@ use Rattle.std.specs.Prelude.{nat_lt}
 use Rattle.std.proofs.lemmas.Bool.{and_parts, and_from, lt-ltb, leb-true}
 use Rattle.sb_base.specs.declared.ending.Ending.{Ending}
 use Rattle.addr_map.specs.Places.{MapSizes, functions_begin, code_begin}
-use Rattle.flat_meaning.specs.declared.instruction.FlatInstruction.{FlatInstruction}
-use Rattle.flat_meaning.specs.declared.instruction.FlatInstruction.TheVariants.{Constant, Move, Operate, Operate32}
-use Rattle.flat_meaning.specs.declared.instruction.FlatInstruction.TheVariants.{Load, Store, Branch, JumpForward}
-use Rattle.flat_meaning.specs.declared.instruction.FlatInstruction.TheVariants.{JumpBack, Turn, Call, CallAddress}
-use Rattle.flat_meaning.specs.declared.instruction.FlatInstruction.TheVariants.{Return, Get, Put, Exit, End, Charged}
-use Rattle.flat_meaning.specs.declared.function.FlatFunction.{FlatFunction}
-use Rattle.flat_meaning.specs.Memory.{Bytes}
-use Rattle.flat_routines.specs.Metadata.{View}
-use Rattle.flat_routines.specs.Shape.{is_short, is_shaped, are_shaped, HasShape}
-use Rattle.flat_routines.proofs.Shape.{short_below}
+use Rattle.flat_code.specs.declared.instruction.FlatInstruction.{FlatInstruction}
+use Rattle.flat_code.specs.declared.instruction.FlatInstruction.TheVariants.{Constant, Move, Operate, Operate32}
+use Rattle.flat_code.specs.declared.instruction.FlatInstruction.TheVariants.{Load, Store, Branch, JumpForward}
+use Rattle.flat_code.specs.declared.instruction.FlatInstruction.TheVariants.{JumpBack, Turn, Call, CallAddress}
+use Rattle.flat_code.specs.declared.instruction.FlatInstruction.TheVariants.{Return, Get, Put, Exit, End, Charged}
+use Rattle.flat_code.specs.declared.function.FlatFunction.{FlatFunction}
+use Rattle.flat_code.specs.Memory.{Bytes}
+use Rattle.flat_code.specs.Routines.Metadata.{View}
+use Rattle.flat_code.specs.Routines.Shape.{is_short, is_shaped, are_shaped, HasShape}
+use Rattle.flat_code.proofs.Routines.Shape.{short_below}
 use Rattle.runtime_functions.specs.declared.library.LibraryFunction.TheVariants as library
 use Rattle.runtime_functions.specs.declared.runtime.RuntimeFunction.{RuntimeFunction}
 use Rattle.runtime_functions.specs.declared.runtime.RuntimeFunction.TheVariants.{Library, Scan, PutBytes, PutNumber}
@@ -24,7 +24,8 @@ use Rattle.runtime_functions.specs.declared.status.ReturnStatus.{ReturnStatus}
 use Rattle.runtime_functions.specs.Status.{return_status}
 use Rattle.runtime_functions.specs.Functions.{with_status, with_stub, with_stubs, stubs, function_body}
 use Rattle.runtime_functions.specs.Functions.{zeros, cleared_registers, with_zeros}
-use Rattle.runtime_functions.specs.Runtime.{runtime_list, most_instructions, argument_count, result_count, IsOfRuntime, AreOfRuntime}
+use Rattle.runtime_functions.specs.Runtime.{runtime_list, most_instructions, argument_count, result_count, IsOfRuntime}
+use Rattle.runtime_functions.specs.Runtime.{AreOfRuntime}
 use Rattle.runtime_functions.specs.Sizes.{is_encodable, are_encodable, instruction_words, body_words, function_words}
 use Rattle.runtime_functions.specs.Sizes.{all_words, most_registers}
 

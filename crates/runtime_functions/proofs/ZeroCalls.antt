@@ -8,17 +8,17 @@ use Rattle.obj_memory.proofs.Keeping.{keeps_zeroed}
 use Rattle.source_meaning.specs.State.{State as Source}
 use Rattle.source_meaning.specs.Actions.{integer}
 use Rattle.source_meaning.specs.Lines.{RunsAlikeAt}
-use Rattle.flat_meaning.specs.declared.instruction.FlatInstruction.{FlatInstruction}
-use Rattle.flat_meaning.specs.declared.function.FlatFunction.{FlatFunction}
-use Rattle.flat_meaning.specs.declared.function.FlatProgram.{FlatProgram}
-use Rattle.flat_meaning.specs.Memory.{Bytes}
-use Rattle.flat_meaning.specs.State.{State}
-use Rattle.flat_meaning.specs.Meaning.{Goes}
-use Rattle.flat_routines.specs.Routine.{Outcome, Continues, Halts, Either, Never}
-use Rattle.flat_routines.specs.Metadata.{View}
-use Rattle.flat_routines.proofs.Regions.{spaces_follow}
-use Rattle.flat_routines.proofs.Rules.{weaken}
-use Rattle.flat_routines.specs.Objects.StandsFor.{Keys}
+use Rattle.flat_code.specs.declared.instruction.FlatInstruction.{FlatInstruction}
+use Rattle.flat_code.specs.declared.function.FlatFunction.{FlatFunction}
+use Rattle.flat_code.specs.declared.function.FlatProgram.{FlatProgram}
+use Rattle.flat_code.specs.Memory.{Bytes}
+use Rattle.flat_code.specs.State.{State}
+use Rattle.flat_code.specs.Meaning.{Goes}
+use Rattle.flat_code.specs.Routines.Routine.{Outcome, Continues, Halts, Either, Never}
+use Rattle.flat_code.specs.Routines.Metadata.{View}
+use Rattle.flat_code.proofs.Routines.Regions.{spaces_follow}
+use Rattle.flat_code.proofs.Routines.Rules.{weaken}
+use Rattle.flat_code.specs.Routines.Objects.StandsFor.{Keys}
 use Rattle.flat_actions.specs.Actions.{IsActionIn, Leaves, IsFor, HasGiven, Nowhere, Word, runtime_basis, views_of}
 use Rattle.flat_actions.specs.Actions.{work_of}
 use Rattle.flat_actions.proofs.Standing.{shown_still, keeps_same}

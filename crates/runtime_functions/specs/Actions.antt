@@ -7,16 +7,16 @@ use Rattle.behaviours.specs.Steps.{run}
 use Rattle.addr_map.specs.Places.{MapSizes}
 use Rattle.obj_memory.specs.declared.value.Value.{Value}
 use Rattle.source_meaning.specs.State.{State as Source, Outcome as Completed, Gives, Ended, Paused, Run}
-use Rattle.flat_meaning.specs.declared.instruction.FlatInstruction.{FlatInstruction}
-use Rattle.flat_meaning.specs.declared.function.FlatFunction.{FlatFunction}
-use Rattle.flat_meaning.specs.declared.function.FlatProgram.{FlatProgram}
-use Rattle.flat_meaning.specs.Memory.{Bytes}
-use Rattle.flat_meaning.specs.State.{State, Stage, Stands, Over}
-use Rattle.flat_meaning.specs.Words.{IsOfWords}
-use Rattle.flat_meaning.specs.Meaning.{step}
-use Rattle.flat_routines.specs.InputOutput.{has_input_output}
-use Rattle.flat_routines.specs.Metadata.{View}
-use Rattle.flat_routines.specs.Objects.StandsFor.{Views, Keys}
+use Rattle.flat_code.specs.declared.instruction.FlatInstruction.{FlatInstruction}
+use Rattle.flat_code.specs.declared.function.FlatFunction.{FlatFunction}
+use Rattle.flat_code.specs.declared.function.FlatProgram.{FlatProgram}
+use Rattle.flat_code.specs.Memory.{Bytes}
+use Rattle.flat_code.specs.State.{State, Stage, Stands, Over}
+use Rattle.flat_code.specs.Words.{IsOfWords}
+use Rattle.flat_code.specs.Meaning.{step}
+use Rattle.flat_code.specs.Routines.InputOutput.{has_input_output}
+use Rattle.flat_code.specs.Routines.Metadata.{View}
+use Rattle.flat_code.specs.Routines.Objects.StandsFor.{Views, Keys}
 use Rattle.flat_actions.specs.Actions.{runtime_basis, IsShown, IsFor, Holder, Nowhere, Word, Pointer}
 use Rattle.flat_actions.specs.Actions.{registers_of, AreHeldBy, IsGivenIn, StaysElsewhere, KeepsHeld, IsActionIn}
 use Rattle.flat_actions.specs.Actions.{StaysUnwritten, work_of}

@@ -6,14 +6,14 @@ use Rattle.sb_base.specs.Endings.{code_of, report_of}
 use Rattle.behaviours.specs.Steps.{run}
 use Rattle.addr_map.specs.declared.region.Region.TheVariants.{RuntimeCalls}
 use Rattle.addr_map.specs.Places.{MapSizes, region_size}
-use Rattle.flat_meaning.specs.declared.instruction.FlatInstruction.{FlatInstruction}
-use Rattle.flat_meaning.specs.declared.instruction.FlatInstruction.TheVariants.{Call}
-use Rattle.flat_meaning.specs.declared.function.FlatFunction.{FlatFunction}
-use Rattle.flat_meaning.specs.declared.function.FlatProgram.{FlatProgram}
-use Rattle.flat_meaning.specs.Calls.{function_in, charged, rooms, arguments}
-use Rattle.flat_meaning.specs.State.{State, Frame, Stage, Stands, Over}
-use Rattle.flat_meaning.specs.Meaning.{instruction_at, waiting, step}
-use Rattle.flat_routines.specs.Routine.{Outcome, Continues, Halts}
+use Rattle.flat_code.specs.declared.instruction.FlatInstruction.{FlatInstruction}
+use Rattle.flat_code.specs.declared.instruction.FlatInstruction.TheVariants.{Call}
+use Rattle.flat_code.specs.declared.function.FlatFunction.{FlatFunction}
+use Rattle.flat_code.specs.declared.function.FlatProgram.{FlatProgram}
+use Rattle.flat_code.specs.Calls.{function_in, charged, rooms, arguments}
+use Rattle.flat_code.specs.State.{State, Frame, Stage, Stands, Over}
+use Rattle.flat_code.specs.Meaning.{instruction_at, waiting, step}
+use Rattle.flat_code.specs.Routines.Routine.{Outcome, Continues, Halts}
 use Rattle.runtime_functions.specs.declared.status.ReturnStatus.{ReturnStatus}
 use Rattle.runtime_functions.specs.Status.{return_status, status_number}
 use Rattle.runtime_functions.specs.Functions.{IsRuntimeFunction, cleared_registers}

@@ -6,11 +6,11 @@ use Rattle.obj_memory.specs.Heap.{rounded_up}
 use Rattle.c_tree.specs.declared.program.Variable.{Variable}
 use Rattle.source_meaning.specs.State.{State as Source, Outcome as Completed, Gives, Ended, Paused, Home, Setting}
 use Rattle.source_meaning.specs.Blocks.{Block, enter_block}
-use Rattle.flat_meaning.specs.declared.function.FlatProgram.{FlatProgram}
-use Rattle.flat_meaning.specs.Memory.{Bytes}
-use Rattle.flat_meaning.specs.State.{Stage}
-use Rattle.flat_meaning.specs.Words.{IsOfWords}
-use Rattle.flat_routines.specs.Objects.StandsFor.{Views, Keys}
+use Rattle.flat_code.specs.declared.function.FlatProgram.{FlatProgram}
+use Rattle.flat_code.specs.Memory.{Bytes}
+use Rattle.flat_code.specs.State.{Stage}
+use Rattle.flat_code.specs.Words.{IsOfWords}
+use Rattle.flat_code.specs.Routines.Objects.StandsFor.{Views, Keys}
 use Rattle.flat_actions.specs.Actions.{IsFor, KeepsHeld, work_of}
 use Rattle.lib_wrappers.specs.AllocatingRoutines.Entering.{block_bytes, AreOfLock, CanEnter}
 use Rattle.runtime_functions.specs.Calls.{CallSite, calling_steps}

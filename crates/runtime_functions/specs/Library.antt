@@ -5,15 +5,16 @@ use Rattle.c_tree.specs.declared.expression.Routine.{Routine}
 use Rattle.c_tree.specs.declared.expression.Routine.TheVariants as library
 use Rattle.source_meaning.specs.State.{Setting}
 use Rattle.source_meaning.specs.Library.{routine}
-use Rattle.flat_meaning.specs.declared.instruction.FlatInstruction.{FlatInstruction}
-use Rattle.flat_meaning.specs.Memory.{Bytes}
-use Rattle.flat_routines.specs.declared.registers.Held.{Held}
-use Rattle.flat_routines.specs.Metadata.{View}
+use Rattle.flat_code.specs.declared.instruction.FlatInstruction.{FlatInstruction}
+use Rattle.flat_code.specs.Memory.{Bytes}
+use Rattle.flat_code.specs.declared.registers.Held.{Held}
+use Rattle.flat_code.specs.Routines.Metadata.{View}
 use Rattle.flat_actions.specs.Actions.{Holder, Nowhere, Word, Pointer, IsActionIn, runtime_basis}
 use Rattle.lib_wrappers.specs.AllocatingRoutines.Premises.{AreStanding}
 use Rattle.runtime_functions.specs.declared.library.LibraryFunction.{LibraryFunction}
 use Rattle.runtime_functions.specs.declared.library.LibraryFunction.TheVariants.{Malloc, Calloc, Free, Realloc, Memcpy}
-use Rattle.runtime_functions.specs.declared.library.LibraryFunction.TheVariants.{Memmove, Memset, Memcmp, Strlen, Strcmp}
+use Rattle.runtime_functions.specs.declared.library.LibraryFunction.TheVariants.{Memmove, Memset, Memcmp, Strlen}
+use Rattle.runtime_functions.specs.declared.library.LibraryFunction.TheVariants.{Strcmp}
 use Rattle.runtime_functions.specs.declared.library.LibraryFunction.TheVariants.{Strcpy, Strncpy, Strcat, Strchr, Puts}
 use Rattle.runtime_functions.specs.Actions.{Interface}
 

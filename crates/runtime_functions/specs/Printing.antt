@@ -10,11 +10,11 @@ use Rattle.source_meaning.specs.Acting.{state_of}
 use Rattle.source_meaning.specs.Actions.{put_bytes}
 use Rattle.source_meaning.specs.Strings.{scan}
 use Rattle.source_meaning.specs.Printing.{argument_bytes}
-use Rattle.flat_meaning.specs.declared.function.FlatProgram.{FlatProgram}
-use Rattle.flat_meaning.specs.Memory.{Bytes}
-use Rattle.flat_meaning.specs.State.{Stage}
-use Rattle.flat_meaning.specs.Words.{IsOfWords}
-use Rattle.flat_routines.specs.Objects.StandsFor.{Views, Keys}
+use Rattle.flat_code.specs.declared.function.FlatProgram.{FlatProgram}
+use Rattle.flat_code.specs.Memory.{Bytes}
+use Rattle.flat_code.specs.State.{Stage}
+use Rattle.flat_code.specs.Words.{IsOfWords}
+use Rattle.flat_code.specs.Routines.Objects.StandsFor.{Views, Keys}
 use Rattle.flat_actions.specs.Actions.{Pointer, IsHeldBy, IsFor, work_of}
 use Rattle.flat_actions.specs.Ranges.{IsObjectRange}
 use Rattle.runtime_functions.specs.Calls.{CallSite, calling_steps}

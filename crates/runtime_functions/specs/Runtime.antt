@@ -3,12 +3,12 @@ use Rattle.std.specs.Prelude.{ℕ, List, [], ◌∷◌}
 use Rattle.addr_map.specs.Places.{MapSizes}
 use Rattle.c_tree.specs.declared.format.Directive.TheVariants as directive
 use Rattle.source_meaning.specs.Strings.{scan}
-use Rattle.flat_meaning.specs.declared.instruction.FlatInstruction.{FlatInstruction}
-use Rattle.flat_meaning.specs.declared.function.FlatFunction.{FlatFunction}
-use Rattle.flat_meaning.specs.Memory.{Bytes}
-use Rattle.flat_routines.specs.InputOutput.{IsWithoutInputOutput}
-use Rattle.flat_routines.specs.Metadata.{View}
-use Rattle.flat_routines.specs.Shape.{HasShape}
+use Rattle.flat_code.specs.declared.instruction.FlatInstruction.{FlatInstruction}
+use Rattle.flat_code.specs.declared.function.FlatFunction.{FlatFunction}
+use Rattle.flat_code.specs.Memory.{Bytes}
+use Rattle.flat_code.specs.Routines.InputOutput.{IsWithoutInputOutput}
+use Rattle.flat_code.specs.Routines.Metadata.{View}
+use Rattle.flat_code.specs.Routines.Shape.{HasShape}
 use Rattle.flat_actions.specs.Actions.{runtime_basis}
 use Rattle.flat_actions.specs.Scanning.{IsScanRoutine}
 use Rattle.flat_actions.specs.Ranges.{IsTaggedMoveRoutine}

@@ -2,7 +2,7 @@
 
 ghost use Rattle.std.specs.Prelude.{◌≡◌, suc, ◌+◌, ◌-◌, ◌*◌, ◌<◌, ◌≤◌, ◌^◌, [], ◌∷◌, ◌++◌};
 ghost use Rattle.std.specs.Prelude.{IfOk, OnOk, length};
-ghost use Rattle.flat_meaning.specs.declared.instruction.FlatInstruction.TheVariants.{Constant, Return};
+ghost use Rattle.flat_code.specs.declared.instruction.FlatInstruction.TheVariants.{Constant, Return};
 ghost use Rattle.runtime_functions.specs.Status.{return_status};
 ghost use Rattle.runtime_functions.specs.Functions.{IsRuntimeFunction, function_body, own_homes, stub_place};
 ghost use Rattle.runtime_functions.specs.Functions.{cleared_registers, stubs, with_status, with_stub, with_stubs};
@@ -10,7 +10,7 @@ ghost use Rattle.runtime_functions.specs.Functions.{with_zeros, zeros};
 
 use crate::list::put;
 use crate::status::ReturnStatus;
-use flat_meaning::{FlatFunction, FlatInstruction};
+use flat_code::{FlatFunction, FlatInstruction};
 use sb_base::Ending;
 use std::alloc::{AllocError, Global};
 use tree_containers::Items;

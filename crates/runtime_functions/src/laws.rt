@@ -3,12 +3,12 @@
 
 ghost use Rattle.std.specs.Prelude.{◌≡◌, ◌+◌, ◌*◌, ◌^◌, ◌≤◌, ℕ, Bool, List, length, true, Some, None};
 ghost use Rattle.addr_map.specs.Places.{MapSizes, AreMapped, functions_begin, code_begin};
-ghost use Rattle.flat_meaning.specs.declared.instruction.FlatInstruction.{FlatInstruction};
-ghost use Rattle.flat_meaning.specs.declared.function.FlatFunction.{FlatFunction};
-ghost use Rattle.flat_meaning.specs.declared.function.FlatProgram.{FlatProgram};
-ghost use Rattle.flat_meaning.specs.Meaning.{Goes, context};
-ghost use Rattle.flat_routines.specs.Local.{local_run};
-ghost use Rattle.flat_routines.specs.Routine.{Outcome, left_at};
+ghost use Rattle.flat_code.specs.declared.instruction.FlatInstruction.{FlatInstruction};
+ghost use Rattle.flat_code.specs.declared.function.FlatFunction.{FlatFunction};
+ghost use Rattle.flat_code.specs.declared.function.FlatProgram.{FlatProgram};
+ghost use Rattle.flat_code.specs.Meaning.{Goes, context};
+ghost use Rattle.flat_code.specs.Routines.Local.{local_run};
+ghost use Rattle.flat_code.specs.Routines.Routine.{Outcome, left_at};
 ghost use Rattle.obj_memory.specs.declared.value.Value.{Value};
 ghost use Rattle.obj_memory.specs.Objects.{ObjectState};
 ghost use Rattle.c_tree.specs.declared.expression.Kind.TheVariants.{Structure};
@@ -17,7 +17,7 @@ ghost use Rattle.c_tree.specs.declared.program.Variable.{Variable};
 ghost use Rattle.source_meaning.specs.State.{State as Source, Setting};
 ghost use Rattle.source_meaning.specs.Library.{routine};
 ghost use Rattle.source_meaning.specs.Structures.{taken, make_zero};
-ghost use Rattle.flat_routines.specs.Objects.StandsFor.{Keys};
+ghost use Rattle.flat_code.specs.Routines.Objects.StandsFor.{Keys};
 ghost use Rattle.flat_actions.specs.Actions.{views_of};
 ghost use Rattle.lib_wrappers.specs.AllocatingRoutines.Premises.{AreStanding};
 ghost use Rattle.lib_wrappers.specs.AreaRoutines.Zeroing.{IsToZeroArea};
@@ -47,9 +47,9 @@ ghost use Rattle.runtime_functions.specs.Entering.{IsToEnter, ServesBlock};
 use shadow_space::ShadowForm;
 use source_meaning::laws::lines::runs_do_the_same_at_each_line;
 
-/// The call of a function of the runtime does what its routine does behind the registers that it makes 0, in eleven more
-/// steps at most: the status and the results are in the registers for them, the caller's others stay, and all else is
-/// as the routine leaves it. The work is 24 and twice the values that are handed over, and the routine's own.
+/// The call of a function of the runtime does what its routine does behind the registers that it makes 0, in eleven
+/// more steps at most: the status and the results are in the registers for them, the caller's others stay, and all else
+/// is as the routine leaves it. The work is 24 and twice the values that are handed over, and the routine's own.
 pub fn calls_do_what_routines_do()
     ensures { (m : MapSizes) (p : FlatProgram) (s : CallSite) (f : FlatFunction) (r : List FlatInstruction) (a n : ℕ)
         → CallsRuntime m p s f r a n → (k : ℕ) (x : Outcome)
@@ -58,9 +58,9 @@ pub fn calls_do_what_routines_do()
         → ComesOfCall m p s a n (k + calling_steps) x }
 {}
 
-/// The call of a routine of the library, at any line, does what the routine does there, from a state that stands for one
-/// of the source: where it goes on the status is 0, the state stands for the one that the routine leaves and its result
-/// is held, and where it ends the run the status tells its ending.
+/// The call of a routine of the library, at any line, does what the routine does there, from a state that stands for
+/// one of the source: where it goes on the status is 0, the state stands for the one that the routine leaves and its
+/// result is held, and where it ends the run the status tells its ending.
 pub fn calls_of_the_library_do_what_it_does<S: ShadowForm>()
     ensures { (m : MapSizes) (set : Setting) → set.sizes ≡ m
         → (p : FlatProgram) (s : CallSite) (f : LibraryFunction) (fn : FlatFunction)
@@ -176,8 +176,8 @@ pub fn calls_of_put_area_assign_contents<S: ShadowForm>()
         → ServesPlace m p (views_of m functions types S.entry) k (S.IsGood m) s c size is_judged to line v x }
 {}
 
-/// Of the functions of the runtime each instruction names registers below 254, and has numbers that machine instructions
-/// hold.
+/// Of the functions of the runtime each instruction names registers below 254, and has numbers that machine
+/// instructions hold.
 pub fn functions_of_the_runtime_are_encodable<S: ShadowForm>()
     ensures { (m : MapSizes) (f : RuntimeFunction) (fn : FlatFunction) → IsOfRuntime m S.entry (S.IsGood m) f fn
         → are_encodable fn.body ≡ true }

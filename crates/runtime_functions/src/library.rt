@@ -2,15 +2,14 @@
 
 ghost use Rattle.std.specs.Prelude.{◌≡◌, IfOk};
 ghost use Rattle.addr_map.specs.Places.{AreMapped};
-ghost use Rattle.flat_routines.specs.Shape.{HasShape};
+ghost use Rattle.flat_code.specs.Routines.Shape.{HasShape};
 ghost use Rattle.runtime_functions.specs.Sizes.{most_registers};
 ghost use Rattle.runtime_functions.specs.Runtime.{most_instructions};
 ghost use Rattle.runtime_functions.specs.declared.runtime.RuntimeFunction.TheVariants.{Library};
 ghost use Rattle.runtime_functions.specs.Library.{IsLibraryCode, parameters_of, results_of};
 
 use addr_map::AddrMap;
-use flat_meaning::FlatInstruction;
-use flat_routines::{Entry, Held};
+use flat_code::{Entry, FlatInstruction, Held};
 use lib_wrappers::allocating::{calloc, free, malloc, realloc};
 use lib_wrappers::comparing::{RangeRegisters, memcmp, strchr, strcmp};
 use lib_wrappers::moving::{CopyRegisters, FillRegisters, memmove, memset};

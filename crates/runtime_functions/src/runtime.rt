@@ -2,7 +2,7 @@
 
 ghost use Rattle.std.specs.Prelude.{◌≡◌, ◌+◌, ◌<◌, ◌^◌, IfOk, length};
 ghost use Rattle.addr_map.specs.Places.{AreMapped};
-ghost use Rattle.flat_routines.specs.Shape.{HasShape};
+ghost use Rattle.flat_code.specs.Routines.Shape.{HasShape};
 ghost use Rattle.runtime_functions.specs.Functions.{cleared_registers};
 ghost use Rattle.runtime_functions.specs.Sizes.{most_registers};
 ghost use Rattle.runtime_functions.specs.Runtime.{most_instructions};
@@ -13,8 +13,7 @@ use crate::function::{RuntimeFrame, runtime_function};
 use crate::library::{LibraryFunction, library_code};
 use addr_map::AddrMap;
 use c_tree::Directive;
-use flat_meaning::{FlatFunction, FlatInstruction};
-use flat_routines::{Entry, Held};
+use flat_code::{Entry, FlatFunction, FlatInstruction, Held};
 use lib_wrappers::allocating::{EntryRegisters, enter, zero};
 use lib_wrappers::areas::{make_zero, put_structure, take_part, take_structure};
 use lib_wrappers::moving::move_tagged;
@@ -39,8 +38,8 @@ pub enum RuntimeFunction {
     Zero,
     /// Moves a range with its entries: to an address, from an address, so many bytes.
     CopyTagged,
-    /// Makes the objects of a block that is entered, by the end of the object stack and by their bytes. Gives where they
-    /// begin and end, their key and their lock word.
+    /// Makes the objects of a block that is entered, by the end of the object stack and by their bytes. Gives where
+    /// they begin and end, their key and their lock word.
     Enter,
     /// Makes the contents of a structure of zeros in an area, by where it begins and its bytes.
     ZeroArea,

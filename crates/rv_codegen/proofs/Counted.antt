@@ -10,9 +10,9 @@ use Rattle.rv_isa.specs.Table.{word_of}
 use Rattle.rv_asm.specs.declared.item.Item.{Item}
 use Rattle.rv_asm.specs.Forms.{IsAssemblable, longest_size}
 use Rattle.rv_asm.specs.Words.{words_of}
-use Rattle.flat_meaning.specs.declared.function.FlatFunction.{FlatFunction}
-use Rattle.flat_meaning.specs.declared.function.FlatProgram.{FlatProgram}
-use Rattle.flat_meaning.specs.Calls.{function_in}
+use Rattle.flat_code.specs.declared.function.FlatFunction.{FlatFunction}
+use Rattle.flat_code.specs.declared.function.FlatProgram.{FlatProgram}
+use Rattle.flat_code.specs.Calls.{function_in}
 use Rattle.reg_plan.specs.declared.plan.FunctionPlan.{FunctionPlan}
 use Rattle.machine_laws.specs.Layout.Lists.{items_of}
 use Rattle.machine_laws.specs.Segments.Segments.{is_of, function_words, words_if, words_below, rows_below}

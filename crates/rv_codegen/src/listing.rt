@@ -2,12 +2,12 @@
 
 ghost use Rattle.std.specs.Prelude.{◌≡◌, ◌+◌, ◌-◌, ◌<◌, ◌^◌, ◌++◌, ◌∷◌, [], length, OnOk, IfOk, true};
 ghost use Rattle.rv_asm.specs.declared.item.Item.TheVariants as item;
-ghost use Rattle.flat_meaning.specs.Calls.{function_in};
-ghost use Rattle.flat_meaning.specs.Meaning.{body_of};
+ghost use Rattle.flat_code.specs.Calls.{function_in};
+ghost use Rattle.flat_code.specs.Meaning.{body_of};
 ghost use Rattle.reg_plan.specs.Order.{IsLookupAt};
 ghost use Rattle.reg_plan.specs.Saves.Saves.{is_call, saved_at};
 ghost use Rattle.machine_laws.specs.Calls.Table.{source_count};
-ghost use Rattle.flat_meaning.specs.declared.instruction.FlatInstruction.TheVariants as flat;
+ghost use Rattle.flat_code.specs.declared.instruction.FlatInstruction.TheVariants as flat;
 ghost use Rattle.machine_laws.specs.Following.Code.{keeping};
 ghost use Rattle.machine_laws.specs.Layout.Lists.{plain, label_for, tail_of, items_at, items_of};
 
@@ -15,7 +15,7 @@ use crate::emission::{
     PlacedInstruction, PlannedFunction, left_register, put_block, put_entry, right_register,
 };
 use addr_map::AddrMap;
-use flat_meaning::{FlatInstruction, FlatProgram};
+use flat_code::{FlatInstruction, FlatProgram};
 use reg_plan::call_saves::call_saves;
 use reg_plan::{FunctionPlan, LiveLookup};
 use rv_asm::{Item, Label};

@@ -4,10 +4,10 @@ use Rattle.std.proofs.lemmas.Bool.{and_parts}
 use Rattle.addr_map.specs.Places.{region_size}
 use Rattle.behaviours.specs.Steps.{run}
 use Rattle.rv_isa.specs.Results.{branch_taken, reg_result}
-use Rattle.flat_meaning.specs.Memory.{Bytes, put}
-use Rattle.flat_meaning.specs.State.{State, Stage, Stands, Over, Stuck}
-use Rattle.flat_meaning.specs.Calls.{rooms}
-use Rattle.flat_meaning.specs.Meaning.{step, started}
+use Rattle.flat_code.specs.Memory.{Bytes, put}
+use Rattle.flat_code.specs.State.{State, Stage, Stands, Over, Stuck}
+use Rattle.flat_code.specs.Calls.{rooms}
+use Rattle.flat_code.specs.Meaning.{step, started}
 use Rattle.rv_codegen_example.specs.Program.{sizes, doublings, program, StandsBefore, Ends}
 
 goes : Stage → Stage

@@ -8,16 +8,16 @@ use denote.RawPtr.{null_ptr}
 use Rattle.addr_map.specs.Places.{MapSizes, AreMapped, region_size, function_address}
 use Rattle.behaviours.specs.Behaviour.{Follows}
 use Rattle.behaviours.specs.Steps.{run}
-use Rattle.flat_meaning.specs.declared.instruction.RightOperand.{RightOperand}
-use Rattle.flat_meaning.specs.declared.instruction.RightOperand.TheVariants as right
-use Rattle.flat_meaning.specs.declared.instruction.FlatInstruction.{FlatInstruction}
-use Rattle.flat_meaning.specs.declared.instruction.FlatInstruction.TheVariants as flat
-use Rattle.flat_meaning.specs.declared.function.FlatFunction.{FlatFunction}
-use Rattle.flat_meaning.specs.declared.function.FlatProgram.{FlatProgram}
-use Rattle.flat_meaning.specs.Memory.{Bytes, AreBytes}
-use Rattle.flat_meaning.specs.State.{Stuck}
-use Rattle.flat_meaning.specs.Calls.{function_in}
-use Rattle.flat_meaning.specs.Meaning.{instruction_at, step, started, flat_meaning}
+use Rattle.flat_code.specs.declared.instruction.RightOperand.{RightOperand}
+use Rattle.flat_code.specs.declared.instruction.RightOperand.TheVariants as right
+use Rattle.flat_code.specs.declared.instruction.FlatInstruction.{FlatInstruction}
+use Rattle.flat_code.specs.declared.instruction.FlatInstruction.TheVariants as flat
+use Rattle.flat_code.specs.declared.function.FlatFunction.{FlatFunction}
+use Rattle.flat_code.specs.declared.function.FlatProgram.{FlatProgram}
+use Rattle.flat_code.specs.Memory.{Bytes, AreBytes}
+use Rattle.flat_code.specs.State.{Stuck}
+use Rattle.flat_code.specs.Calls.{function_in}
+use Rattle.flat_code.specs.Meaning.{instruction_at, step, started, flat_meaning}
 use Rattle.reg_plan.specs.declared.plan.LiveInterval.{LiveInterval}
 use Rattle.reg_plan.specs.declared.plan.Place.{Place}
 use Rattle.reg_plan.specs.declared.plan.Place.TheVariants.{Home, Register}

@@ -4,10 +4,10 @@ use Rattle.std.proofs.Common.{◌∷◌, inl, inr, length, Option, Some, None, r
 use Rattle.std.specs.Prelude.{slice_get, nat_le, nat_lt, nat_eq, Vec}
 use Rattle.std.specs.Global.{Global}
 use Rattle.std.proofs.lemmas.Bool.{ltb-true, leb-true, eqb-true, eq-eqb, and_parts, cases_lt}
-use Rattle.flat_meaning.specs.declared.instruction.FlatInstruction.{FlatInstruction}
-use Rattle.flat_meaning.specs.declared.function.FlatFunction.{FlatFunction}
-use Rattle.flat_meaning.specs.declared.function.FlatProgram.{FlatProgram}
-use Rattle.flat_meaning.specs.Calls.{record_bytes}
+use Rattle.flat_code.specs.declared.instruction.FlatInstruction.{FlatInstruction}
+use Rattle.flat_code.specs.declared.function.FlatFunction.{FlatFunction}
+use Rattle.flat_code.specs.declared.function.FlatProgram.{FlatProgram}
+use Rattle.flat_code.specs.Calls.{record_bytes}
 use Rattle.reg_plan.specs.declared.effects.Span.{Span}
 use Rattle.reg_plan.specs.declared.effects.Reads.{Reads}
 use Rattle.reg_plan.specs.Registers.{registers_given_out}

@@ -11,8 +11,8 @@ use crate::line::{Line, image_in, read_line};
 use crate::text::cut;
 use std::alloc::{AllocError, Global};
 
-/// The bytes of a listing. Refused is the first line at fault, with the lowest fault that it has; memory is taken for no
-/// more bytes than the first line tells.
+/// The bytes of a listing. Refused is the first line at fault, with the lowest fault that it has; memory is taken for
+/// no more bytes than the first line tells.
 #[tactic(auto, unfolding(crate::specs::Listings::read_listing, crate::specs::Listings::read_all))]
 pub fn read_list(alloc: Global, text: &[u8]) -> Result<Vec<u8>, ListRefusal>
     ensures { Reads (λ bytes. bytes.items) (read_listing text.now) result }

@@ -1,8 +1,9 @@
 //! The compiler, and the call that does all that the program does.
 //!
-//! A source is accepted where it has a typed program within the limits. Programs of integers alone (`compiled_programs`)
-//! are built, unless they are too large; all others are, where the back end covers their code and its tests pass. What
-//! an accepted source means is what `source_meaning` says of its typed program (`specs/Accepted.antt`).
+//! A source is accepted where it has a typed program within the limits. Programs of integers alone
+//! (`compiled_programs`) are built, unless they are too large; all others are, where the back end covers their code and
+//! its tests pass. What an accepted source means is what `source_meaning` says of its typed program
+//! (`specs/Accepted.antt`).
 #![tactic(auto)]
 
 mod commands;

@@ -61,8 +61,8 @@ impl RefusedWord {
 /// Why a source is refused. First comes `TooLarge` of the source's bytes; then a lexical fault, a fault of a directive,
 /// an unsupported word, `Syntax` or `Nesting`; then a violated rule of typing, and last of these an initializer that is
 /// not constant; then `TooLarge` of functions, parameters, members or globals, in this order; then `RoomTooLarge`. Last
-/// comes why an accepted source is not built: what is too large, of a program of integers alone, and `Uncompiled`, of any
-/// other.
+/// comes why an accepted source is not built: what is too large, of a program of integers alone, and `Uncompiled`, of
+/// any other.
 #[derive(Debug, Drop, Error)]
 pub enum SourceRefusal {
     /// The first place where no token stands.

@@ -6,27 +6,27 @@ use Rattle.addr_map.specs.declared.region.Region.TheVariants.{Shadow}
 use Rattle.addr_map.specs.Places.{MapSizes, spaces_begin, region_size}
 use Rattle.rv_isa.specs.declared.instruction.BranchOp.TheVariants.{Bgeu}
 use Rattle.rv_isa.specs.Results.{reg_result}
-use Rattle.flat_meaning.specs.declared.instruction.RightOperand.TheVariants.{Register}
-use Rattle.flat_meaning.specs.declared.instruction.FlatInstruction.{FlatInstruction}
-use Rattle.flat_meaning.specs.declared.instruction.FlatInstruction.TheVariants.{JumpBack}
-use Rattle.flat_meaning.specs.Memory.{Bytes, put, store, KeepsBut}
-use Rattle.flat_meaning.specs.Spaces.{is_allowed}
-use Rattle.flat_meaning.specs.State.{State}
-use Rattle.flat_meaning.specs.Words.{IsOfWords}
-use Rattle.flat_meaning.specs.Meaning.{Context, Goes}
-use Rattle.flat_meaning.proofs.Stored.{kept_beside, keeps_within, keeps_both}
-use Rattle.flat_routines.specs.Registers.{AreBelow}
-use Rattle.flat_routines.specs.Routine.{Outcome, Continues, Halts, Reaches, Either, Never, until_code}
-use Rattle.flat_routines.specs.Effects.{worked, effects, AreAllowed}
-use Rattle.flat_routines.specs.Renaming.{through}
-use Rattle.flat_routines.specs.Metadata.{metadata_at, no_metadata, ShowsNothing}
-use Rattle.flat_routines.proofs.Steps.{has_front, has_back, has_self}
-use Rattle.flat_routines.proofs.Rules.{line, loop, weaken, next, Turns}
-use Rattle.flat_routines.proofs.Distinct.{AreRegisters, register_of, registers_rename, others_stay}
-use Rattle.flat_routines.proofs.Wrapped.{routine}
-use Rattle.flat_routines.proofs.Regions.{IsLaidOut, shadow_allowed, shadow_not_shown}
-use Rattle.flat_routines.proofs.Words.{store_four, four_read, four_beside, metadata_kept, stored_at}
-use Rattle.flat_routines.proofs.Branches.{not_below, is_below}
+use Rattle.flat_code.specs.declared.instruction.RightOperand.TheVariants.{Register}
+use Rattle.flat_code.specs.declared.instruction.FlatInstruction.{FlatInstruction}
+use Rattle.flat_code.specs.declared.instruction.FlatInstruction.TheVariants.{JumpBack}
+use Rattle.flat_code.specs.Memory.{Bytes, put, store, KeepsBut}
+use Rattle.flat_code.specs.Spaces.{is_allowed}
+use Rattle.flat_code.specs.State.{State}
+use Rattle.flat_code.specs.Words.{IsOfWords}
+use Rattle.flat_code.specs.Meaning.{Context, Goes}
+use Rattle.flat_code.proofs.Stored.{kept_beside, keeps_within, keeps_both}
+use Rattle.flat_code.specs.Routines.Registers.{AreBelow}
+use Rattle.flat_code.specs.Routines.Routine.{Outcome, Continues, Halts, Reaches, Either, Never, until_code}
+use Rattle.flat_code.specs.Routines.Effects.{worked, effects, AreAllowed}
+use Rattle.flat_code.specs.Routines.Renaming.{through}
+use Rattle.flat_code.specs.Routines.Metadata.{metadata_at, no_metadata, ShowsNothing}
+use Rattle.flat_code.proofs.Routines.Steps.{has_front, has_back, has_self}
+use Rattle.flat_code.proofs.Routines.Rules.{line, loop, weaken, next, Turns}
+use Rattle.flat_code.proofs.Routines.Distinct.{AreRegisters, register_of, registers_rename, others_stay}
+use Rattle.flat_code.proofs.Routines.Wrapped.{routine}
+use Rattle.flat_code.proofs.Routines.Regions.{IsLaidOut, shadow_allowed, shadow_not_shown}
+use Rattle.flat_code.proofs.Routines.Words.{store_four, four_read, four_beside, metadata_kept, stored_at}
+use Rattle.flat_code.proofs.Routines.Branches.{not_below, is_below}
 use Rattle.shadow_space.specs.Form.{IsWordRange, HasCleared, IsClearRoutine}
 use Rattle.shadow_space.specs.Direct.{direct_entry, begin_clear, clear_one, direct_clear}
 use Rattle.shadow_space.proofs.Entries.{context_of, agrees_shows, agrees_memory}

@@ -3,10 +3,10 @@ use Rattle.std.proofs.Common.{◌≡◌, ℕ, ◌+◌, ◌-◌, ◌*◌, ◌≤�
 use Rattle.std.proofs.Common.{◌∙◌, subst, sym, arith}
 use Rattle.std.proofs.lemmas.List.{length-replicate}
 use Rattle.addr_map.specs.Places.{MapSizes, AreMapped, objects_begin, spaces_begin, whole_pages}
-use Rattle.flat_meaning.specs.Memory.{Bytes, load}
-use Rattle.flat_routines.specs.Metadata.{no_metadata}
-use Rattle.flat_routines.proofs.Words.{store_four, four_read}
-use Rattle.flat_routines.proofs.Regions.{laid_out}
+use Rattle.flat_code.specs.Memory.{Bytes, load}
+use Rattle.flat_code.specs.Routines.Metadata.{no_metadata}
+use Rattle.flat_code.proofs.Routines.Words.{store_four, four_read}
+use Rattle.flat_code.proofs.Routines.Regions.{laid_out}
 use Rattle.shadow_space.specs.declared.start.StartEntry.{StartEntry}
 use Rattle.shadow_space.specs.Start.{metadata_of, IsStartEntry, AreStartEntries, StartsShadow, begun}
 use Rattle.shadow_space.specs.Direct.{direct_entry, direct_put, direct_start}

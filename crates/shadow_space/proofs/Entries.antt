@@ -6,22 +6,22 @@ use Rattle.std.proofs.lemmas.Bool.{cases_lt}
 use Rattle.addr_map.specs.declared.region.Region.TheVariants.{Shadow}
 use Rattle.addr_map.specs.Places.{MapSizes, spaces_begin, region_size}
 use Rattle.rv_isa.specs.Results.{reg_result, extended}
-use Rattle.flat_meaning.specs.Memory.{Bytes, put}
-use Rattle.flat_meaning.specs.Spaces.{is_allowed}
-use Rattle.flat_meaning.specs.State.{State}
-use Rattle.flat_meaning.specs.Meaning.{Context}
-use Rattle.flat_meaning.proofs.Stored.{kept_beside, keeps_within}
-use Rattle.flat_routines.specs.declared.registers.Entry.{Entry}
-use Rattle.flat_routines.specs.Registers.{AreDistinct, AreBelow}
-use Rattle.flat_routines.specs.Effects.{effects, AreAllowed}
-use Rattle.flat_routines.specs.Renaming.{through, Agrees}
-use Rattle.flat_routines.specs.Metadata.{Metadata, metadata_in, entry_registers, IsObjectWord, KeepsButShadow}
-use Rattle.flat_routines.specs.Metadata.{KeepsShadow, ShowsNothing}
-use Rattle.flat_routines.proofs.Distinct.{AreRegisters, register_of, registers_rename, others_stay}
-use Rattle.flat_routines.proofs.Wrapped.{straight_routine}
-use Rattle.flat_routines.proofs.Regions.{IsLaidOut, shadow_allowed, shadow_not_shown}
-use Rattle.flat_routines.proofs.Words.{store_four, IsOfFourWords, four_read, four_beside, metadata_kept, loaded_at}
-use Rattle.flat_routines.proofs.Words.{stored_at}
+use Rattle.flat_code.specs.Memory.{Bytes, put}
+use Rattle.flat_code.specs.Spaces.{is_allowed}
+use Rattle.flat_code.specs.State.{State}
+use Rattle.flat_code.specs.Meaning.{Context}
+use Rattle.flat_code.proofs.Stored.{kept_beside, keeps_within}
+use Rattle.flat_code.specs.declared.registers.Entry.{Entry}
+use Rattle.flat_code.specs.Routines.Registers.{AreDistinct, AreBelow}
+use Rattle.flat_code.specs.Routines.Effects.{effects, AreAllowed}
+use Rattle.flat_code.specs.Routines.Renaming.{through, Agrees}
+use Rattle.flat_code.specs.Routines.Metadata.{Metadata, metadata_in, entry_registers, IsObjectWord, KeepsButShadow}
+use Rattle.flat_code.specs.Routines.Metadata.{KeepsShadow, ShowsNothing}
+use Rattle.flat_code.proofs.Routines.Distinct.{AreRegisters, register_of, registers_rename, others_stay}
+use Rattle.flat_code.proofs.Routines.Wrapped.{straight_routine}
+use Rattle.flat_code.proofs.Routines.Regions.{IsLaidOut, shadow_allowed, shadow_not_shown}
+use Rattle.flat_code.proofs.Routines.Words.{store_four, IsOfFourWords, four_read, four_beside, metadata_kept, loaded_at}
+use Rattle.flat_code.proofs.Routines.Words.{stored_at}
 use Rattle.shadow_space.specs.Form.{HasRead, IsReadRoutine, HasWritten, IsWriteRoutine}
 use Rattle.shadow_space.specs.Direct.{direct_entry, direct_read, direct_write}
 

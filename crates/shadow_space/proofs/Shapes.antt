@@ -1,11 +1,11 @@
 -- What the routines of both forms are made of.
 use Rattle.std.proofs.Common.{◌≡◌, ℕ, ◌+◌, true, [], ◌∷◌, refl, arith}
 use Rattle.addr_map.specs.Places.{MapSizes, AreMapped}
-use Rattle.flat_routines.specs.declared.registers.Entry.{Entry}
-use Rattle.flat_routines.specs.Registers.{AreBelow}
-use Rattle.flat_routines.specs.Metadata.{entry_registers}
-use Rattle.flat_routines.specs.Shape.{is_short, HasShape}
-use Rattle.flat_routines.proofs.Shape.{shaped, both, short_below, shaped_routine}
+use Rattle.flat_code.specs.declared.registers.Entry.{Entry}
+use Rattle.flat_code.specs.Routines.Registers.{AreBelow}
+use Rattle.flat_code.specs.Routines.Metadata.{entry_registers}
+use Rattle.flat_code.specs.Routines.Shape.{is_short, HasShape}
+use Rattle.flat_code.proofs.Routines.Shape.{shaped, both, short_below, shaped_routine}
 use Rattle.shadow_space.specs.Direct.{direct_read, direct_write, direct_clear}
 use Rattle.shadow_space.specs.TwoLevel.Tables.{first_table}
 use Rattle.shadow_space.specs.TwoLevel.Code.{two_level_read, two_level_write, two_level_clear}

@@ -6,11 +6,11 @@ use Rattle.std.specs.Int.{w64, to_le_bytes}
 use Rattle.std.proofs.lemmas.Bool.{cases_lt}
 use Rattle.std.proofs.lemmas.List.{get_or_append_left, get_or-append_right, get_or-take, get_or-drop, length-take-le}
 use Rattle.addr_map.specs.Places.{MapSizes, objects_begin, spaces_begin, region_size, region_start, whole_pages}
-use Rattle.flat_meaning.specs.Memory.{Bytes, put, store}
-use Rattle.flat_meaning.proofs.Stored.{put_same, store_beside}
-use Rattle.flat_routines.specs.Registers.{IsNoneOf}
-use Rattle.flat_routines.specs.Metadata.{Metadata, View, no_metadata, IsObjectWord, KeepsShadow}
-use Rattle.flat_routines.proofs.Words.{store_four, stored_at}
+use Rattle.flat_code.specs.Memory.{Bytes, put, store}
+use Rattle.flat_code.proofs.Stored.{put_same, store_beside}
+use Rattle.flat_code.specs.Routines.Registers.{IsNoneOf}
+use Rattle.flat_code.specs.Routines.Metadata.{Metadata, View, no_metadata, IsObjectWord, KeepsShadow}
+use Rattle.flat_code.proofs.Routines.Words.{store_four, stored_at}
 use Rattle.shadow_space.specs.declared.start.StartEntry.{StartEntry}
 use Rattle.shadow_space.specs.Start.{metadata_of, words_of, IsGlobalWord, IsStartEntry, AreStartEntries, BeginsWith}
 use Rattle.shadow_space.specs.Start.{AreRead, IsStarted, with_word, with_entry, begun}

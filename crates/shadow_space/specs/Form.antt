@@ -2,16 +2,16 @@
 use Rattle.std.specs.Prelude.{◌≡◌, ◌≢◌, ℕ, ◌+◌, ◌*◌, ◌%◌, ◌<◌, ◌≤◌, ◌⊎◌, List, [], ◌∷◌, Bool}
 use Rattle.addr_map.specs.declared.region.Region.TheVariants.{Heap}
 use Rattle.addr_map.specs.Places.{MapSizes, AreMapped, objects_begin, region_end}
-use Rattle.flat_meaning.specs.declared.instruction.FlatInstruction.{FlatInstruction}
-use Rattle.flat_meaning.specs.Memory.{Bytes}
-use Rattle.flat_meaning.specs.State.{State}
-use Rattle.flat_routines.specs.declared.registers.Entry.{Entry}
-use Rattle.flat_routines.specs.Registers.{AreDistinct, AreBelow, OthersStay}
-use Rattle.flat_routines.specs.Routine.{Does, Either, Never}
-use Rattle.flat_routines.specs.Shape.{HasShape}
-use Rattle.flat_routines.specs.InputOutput.{IsWithoutInputOutput}
-use Rattle.flat_routines.specs.Metadata.{View, no_metadata, metadata_in, entry_registers, IsObjectWord}
-use Rattle.flat_routines.specs.Metadata.{KeepsButShadow, ShowsNothing}
+use Rattle.flat_code.specs.declared.instruction.FlatInstruction.{FlatInstruction}
+use Rattle.flat_code.specs.Memory.{Bytes}
+use Rattle.flat_code.specs.State.{State}
+use Rattle.flat_code.specs.declared.registers.Entry.{Entry}
+use Rattle.flat_code.specs.Routines.Registers.{AreDistinct, AreBelow, OthersStay}
+use Rattle.flat_code.specs.Routines.Routine.{Does, Either, Never}
+use Rattle.flat_code.specs.Routines.Shape.{HasShape}
+use Rattle.flat_code.specs.Routines.InputOutput.{IsWithoutInputOutput}
+use Rattle.flat_code.specs.Routines.Metadata.{View, no_metadata, metadata_in, entry_registers, IsObjectWord}
+use Rattle.flat_code.specs.Routines.Metadata.{KeepsButShadow, ShowsNothing}
 
 -- a routine does the same in functions of the program and of the runtime, whatever the calls have taken
 abbrev pub DoesAnywhere : MapSizes → List FlatInstruction → (State → Type 0) → (steps : ℕ) → (State → State → Type 0)

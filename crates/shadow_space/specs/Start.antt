@@ -3,9 +3,9 @@ use Rattle.std.specs.Prelude.{◌≡◌, ℕ, ◌+◌, ◌%◌, ◌^◌, ◌<◌
 use Rattle.std.specs.Int.{w64, to_le_bytes}
 use Rattle.addr_map.specs.declared.region.Region.TheVariants.{Globals, Shadow}
 use Rattle.addr_map.specs.Places.{MapSizes, objects_begin, spaces_begin, region_size, region_end}
-use Rattle.flat_meaning.specs.Memory.{Bytes}
-use Rattle.flat_routines.specs.Registers.{IsNoneOf}
-use Rattle.flat_routines.specs.Metadata.{Metadata, View, no_metadata, IsObjectWord}
+use Rattle.flat_code.specs.Memory.{Bytes}
+use Rattle.flat_code.specs.Routines.Registers.{IsNoneOf}
+use Rattle.flat_code.specs.Routines.Metadata.{Metadata, View, no_metadata, IsObjectWord}
 use Rattle.shadow_space.specs.declared.start.StartEntry.{StartEntry}
 
 -- the metadata of an entry

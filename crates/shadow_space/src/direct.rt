@@ -9,8 +9,7 @@ use crate::entry_words::{load_entry, same_register, store_entry};
 use crate::form::ShadowForm;
 use crate::start::{OBJECTS, StartEntry, put_entry};
 use addr_map::AddrMap;
-use flat_meaning::{FlatInstruction, RightOperand};
-use flat_routines::Entry;
+use flat_code::{Entry, FlatInstruction, RightOperand};
 use rv_isa::{BranchOp, RegOp};
 use std::alloc::{AllocError, Global};
 

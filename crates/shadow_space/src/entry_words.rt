@@ -4,8 +4,7 @@ ghost use Rattle.std.specs.Prelude.{◌≡◌, IfOk};
 ghost use Rattle.shadow_space.specs.Direct.{load_entry as load_entry_code, store_entry as store_entry_code};
 ghost use Rattle.shadow_space.specs.Direct.{same_register as same_register_entry};
 
-use flat_meaning::FlatInstruction;
-use flat_routines::Entry;
+use flat_code::{Entry, FlatInstruction};
 use rv_isa::{LoadOp, StoreOp};
 use std::alloc::{AllocError, Global};
 

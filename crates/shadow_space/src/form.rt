@@ -2,19 +2,18 @@
 
 ghost use Rattle.std.specs.Prelude.{◌≡◌, ℕ, ◌+◌, ◌≤◌, ◌^◌, IfOk, [], ◌∷◌, length};
 ghost use Rattle.addr_map.specs.Places.{MapSizes, AreMapped};
-ghost use Rattle.flat_meaning.specs.Memory.{Bytes};
-ghost use Rattle.flat_routines.specs.Registers.{AreDistinct, AreBelow};
-ghost use Rattle.flat_routines.specs.Metadata.{View, IsObjectWord, KeepsShadow, entry_registers};
-ghost use Rattle.flat_routines.specs.InputOutput.{IsWithoutInputOutput};
-ghost use Rattle.flat_routines.specs.Shape.{HasShape};
+ghost use Rattle.flat_code.specs.Memory.{Bytes};
+ghost use Rattle.flat_code.specs.Routines.Registers.{AreDistinct, AreBelow};
+ghost use Rattle.flat_code.specs.Routines.Metadata.{View, IsObjectWord, KeepsShadow, entry_registers};
+ghost use Rattle.flat_code.specs.Routines.InputOutput.{IsWithoutInputOutput};
+ghost use Rattle.flat_code.specs.Routines.Shape.{HasShape};
 ghost use Rattle.shadow_space.specs.Form.{IsReadRoutine, IsWriteRoutine, IsClearRoutine};
 ghost use Rattle.shadow_space.specs.Form.{EntryCode, ReadsEntries, WritesEntries, HasEntryShape};
 ghost use Rattle.shadow_space.specs.Start.{AreStartEntries, StartsShadow};
 
 use crate::start::StartEntry;
 use addr_map::AddrMap;
-use flat_meaning::FlatInstruction;
-use flat_routines::Entry;
+use flat_code::{Entry, FlatInstruction};
 use std::alloc::{AllocError, Global};
 
 /// A form of the shadow space. The addresses handed to routines are multiples of 8, and the words there lie in object

@@ -13,6 +13,7 @@ mod DeadFrameReused
 mod EndlessCalls
 mod Fibonacci
 mod FramesAreCleared
+mod FunctionDesignators
 mod FunctionPlace
 mod FunctionPointers
 mod FunctionTable

@@ -91,6 +91,7 @@ module _ (ps qs : Pointers) (many : AreAsMany ps qs) where
     node_alike k (decay p) = place_alike p
     node_alike k (address p) = place_alike p
     node_alike k (parenthesized e) = address_alike e
+    node_alike k (deref_function e) = address_alike e
     node_alike k (address_function e) = designated_alike e
     node_alike k (cast e) =
         to_pointer_alike k (kind_of e) (constant_word e) (address_of ps e) (address_of qs e) (address_alike e)

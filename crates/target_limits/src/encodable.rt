@@ -6,7 +6,7 @@ ghost use Rattle.machine_laws.specs.Blocks.Tails.{line_of};
 ghost use Rattle.machine_laws.specs.Following.Code.{IsEncodable};
 ghost use Rattle.target_limits.specs.Encoding.{is_short, is_short_operand, is_small_ending, fits, function_fits};
 
-use flat_meaning::{FlatFunction, FlatInstruction, FlatProgram, RightOperand};
+use flat_code::{FlatFunction, FlatInstruction, FlatProgram, RightOperand};
 use sb_base::Ending;
 
 // Whether a number has 32 bits with its sign.

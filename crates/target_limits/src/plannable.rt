@@ -8,7 +8,7 @@ ghost use Rattle.reg_plan.specs.Accepted.{IsLive};
 ghost use Rattle.reg_plan.specs.Planned.{IsPlannable, ArePlannable};
 ghost use Rattle.target_limits.specs.Planning.{HasNames, HomesStand, IsReadable};
 
-use flat_meaning::{FlatFunction, FlatInstruction, FlatProgram};
+use flat_code::{FlatFunction, FlatInstruction, FlatProgram};
 use reg_plan::closed::is_live;
 use reg_plan::effects::{Span, made_by, read_by};
 use reg_plan::live::live_ranges;

@@ -1,12 +1,12 @@
 //! Whether a program can be begun.
 
 ghost use Rattle.std.specs.Prelude.{◌≡◌, true, false, length, slice_get};
-ghost use Rattle.flat_meaning.specs.Calls.{function_in};
+ghost use Rattle.flat_code.specs.Calls.{function_in};
 ghost use Rattle.machine_laws.specs.Following.Start.{IsStartable};
 ghost use Rattle.target_limits.specs.Starting.{is_turn, is_turn_at, begins, has_entry};
 
 use addr_map::AddrMap;
-use flat_meaning::{FlatFunction, FlatInstruction, FlatProgram};
+use flat_code::{FlatFunction, FlatInstruction, FlatProgram};
 
 // Whether an instruction is a turn.
 fn is_turn(instruction: &FlatInstruction) -> bool

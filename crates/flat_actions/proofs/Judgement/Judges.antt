@@ -14,18 +14,18 @@ use Rattle.obj_memory.specs.Judgement.{are_within, place_in, judged, judge}
 use Rattle.source_meaning.specs.State.{State as Source}
 use Rattle.source_meaning.specs.Blocks.{pass_or_stop}
 use Rattle.source_meaning.specs.Judging.{is_within, is_live_tag}
-use Rattle.flat_meaning.specs.declared.instruction.RightOperand.TheVariants.{Register}
-use Rattle.flat_meaning.specs.declared.instruction.FlatInstruction.{FlatInstruction}
-use Rattle.flat_meaning.specs.State.{State}
-use Rattle.flat_meaning.specs.Words.{IsOfWords}
-use Rattle.flat_meaning.specs.Meaning.{Context, Goes}
-use Rattle.flat_routines.specs.declared.registers.Held.{Held}
-use Rattle.flat_routines.specs.Registers.{AreBelow}
-use Rattle.flat_routines.specs.Routine.{HasAt, Outcome, Continues, Halts, Reaches, Either, Never}
-use Rattle.flat_routines.specs.Metadata.{held_registers}
-use Rattle.flat_routines.proofs.Steps.{has_front, has_back}
-use Rattle.flat_routines.proofs.Rules.{weaken, ends_there, next}
-use Rattle.flat_routines.specs.Objects.StandsFor.{Views, Keys, StandsFor}
+use Rattle.flat_code.specs.declared.instruction.RightOperand.TheVariants.{Register}
+use Rattle.flat_code.specs.declared.instruction.FlatInstruction.{FlatInstruction}
+use Rattle.flat_code.specs.State.{State}
+use Rattle.flat_code.specs.Words.{IsOfWords}
+use Rattle.flat_code.specs.Meaning.{Context, Goes}
+use Rattle.flat_code.specs.declared.registers.Held.{Held}
+use Rattle.flat_code.specs.Routines.Registers.{AreBelow}
+use Rattle.flat_code.specs.Routines.Routine.{HasAt, Outcome, Continues, Halts, Reaches, Either, Never}
+use Rattle.flat_code.specs.Routines.Metadata.{held_registers}
+use Rattle.flat_code.proofs.Routines.Steps.{has_front, has_back}
+use Rattle.flat_code.proofs.Routines.Rules.{weaken, ends_there, next}
+use Rattle.flat_code.specs.Routines.Objects.StandsFor.{Views, Keys, StandsFor}
 use Rattle.shadow_space.proofs.Entries.{context_of}
 use Rattle.flat_actions.specs.Actions.{Pointer as InPointer}
 use Rattle.flat_actions.specs.Judgement.Judging.{IsToJudge, IsSameBut, IsJudged, IsJudgeRoutine}

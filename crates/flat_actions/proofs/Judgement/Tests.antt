@@ -18,28 +18,28 @@ use Rattle.obj_memory.specs.Sound.{IsSoundTag}
 use Rattle.source_meaning.specs.State.{State as Source}
 use Rattle.source_meaning.specs.Blocks.{pass_or_stop}
 use Rattle.source_meaning.specs.Judging.{is_within, is_live_tag, test_bounds, test_life}
-use Rattle.flat_meaning.specs.declared.instruction.RightOperand.{RightOperand}
-use Rattle.flat_meaning.specs.declared.instruction.RightOperand.TheVariants.{Register, Number}
-use Rattle.flat_meaning.specs.declared.instruction.FlatInstruction.{FlatInstruction}
-use Rattle.flat_meaning.specs.declared.instruction.FlatInstruction.TheVariants.{Operate, Load, End}
-use Rattle.flat_meaning.specs.Memory.{Bytes, load}
-use Rattle.flat_meaning.specs.Spaces.{is_allowed}
-use Rattle.flat_meaning.specs.State.{State}
-use Rattle.flat_meaning.specs.Words.{IsOfWords}
-use Rattle.flat_meaning.specs.Meaning.{Context, Goes, right_value}
-use Rattle.flat_meaning.proofs.Stored.{put_same, put_other}
-use Rattle.flat_routines.specs.declared.registers.Held.{Held}
-use Rattle.flat_routines.specs.Registers.{AreBelow}
-use Rattle.flat_routines.specs.Routine.{HasAt, Outcome, Continues, Halts, Reaches}
-use Rattle.flat_routines.specs.Local.{counted}
-use Rattle.flat_routines.specs.Effects.{worked, effects}
-use Rattle.flat_routines.specs.Metadata.{held_registers}
-use Rattle.flat_routines.proofs.Rules.{branch, line_on, arrived, ended}
-use Rattle.flat_routines.proofs.Regions.{laid_out, shadow_not_shown}
-use Rattle.flat_routines.proofs.Branches.{if_not_below, if_below, if_equal, if_unequal}
-use Rattle.flat_routines.specs.Objects.StandsFor.{Views, Keys, spell, StandsFor, IsLock}
+use Rattle.flat_code.specs.declared.instruction.RightOperand.{RightOperand}
+use Rattle.flat_code.specs.declared.instruction.RightOperand.TheVariants.{Register, Number}
+use Rattle.flat_code.specs.declared.instruction.FlatInstruction.{FlatInstruction}
+use Rattle.flat_code.specs.declared.instruction.FlatInstruction.TheVariants.{Operate, Load, End}
+use Rattle.flat_code.specs.Memory.{Bytes, load}
+use Rattle.flat_code.specs.Spaces.{is_allowed}
+use Rattle.flat_code.specs.State.{State}
+use Rattle.flat_code.specs.Words.{IsOfWords}
+use Rattle.flat_code.specs.Meaning.{Context, Goes, right_value}
+use Rattle.flat_code.proofs.Stored.{put_same, put_other}
+use Rattle.flat_code.specs.declared.registers.Held.{Held}
+use Rattle.flat_code.specs.Routines.Registers.{AreBelow}
+use Rattle.flat_code.specs.Routines.Routine.{HasAt, Outcome, Continues, Halts, Reaches}
+use Rattle.flat_code.specs.Routines.Local.{counted}
+use Rattle.flat_code.specs.Routines.Effects.{worked, effects}
+use Rattle.flat_code.specs.Routines.Metadata.{held_registers}
+use Rattle.flat_code.proofs.Routines.Rules.{branch, line_on, arrived, ended}
+use Rattle.flat_code.proofs.Routines.Regions.{laid_out, shadow_not_shown}
+use Rattle.flat_code.proofs.Routines.Branches.{if_not_below, if_below, if_equal, if_unequal}
+use Rattle.flat_code.specs.Routines.Objects.StandsFor.{Views, Keys, spell, StandsFor, IsLock}
 use Rattle.shadow_space.proofs.Entries.{context_of}
-use Rattle.flat_routines.proofs.Spaces.Quiet.{space_allowed, shows_itself}
+use Rattle.flat_code.proofs.Routines.Spaces.Quiet.{space_allowed, shows_itself}
 use Rattle.lock_space.proofs.Spaces.{locks_laid_out}
 use Rattle.flat_actions.specs.Judgement.Judging.{IsSameBut}
 use Rattle.flat_actions.specs.Judgement.Testing.{IsToTest, IsBelow, IsTested, IsSpatialRoutine}

@@ -6,14 +6,14 @@ use Rattle.obj_memory.specs.Objects.{Objects}
 use Rattle.obj_memory.specs.Sound.{IsSoundTag}
 use Rattle.source_meaning.specs.State.{State as Source, Outcome as Completed, Gives, Ended, Paused}
 use Rattle.source_meaning.specs.Judging.{is_within, test_bounds, test_life}
-use Rattle.flat_meaning.specs.declared.instruction.RightOperand.{RightOperand}
-use Rattle.flat_meaning.specs.declared.instruction.RightOperand.TheVariants.{Register, Number}
-use Rattle.flat_meaning.specs.declared.instruction.FlatInstruction.{FlatInstruction}
-use Rattle.flat_meaning.specs.State.{State}
-use Rattle.flat_meaning.specs.Meaning.{right_value}
-use Rattle.flat_routines.specs.declared.registers.Held.{Held}
-use Rattle.flat_routines.specs.Routine.{Does, Outcome, Continues, Halts}
-use Rattle.flat_routines.specs.Objects.StandsFor.{Views, Keys, Spells, StandsFor}
+use Rattle.flat_code.specs.declared.instruction.RightOperand.{RightOperand}
+use Rattle.flat_code.specs.declared.instruction.RightOperand.TheVariants.{Register, Number}
+use Rattle.flat_code.specs.declared.instruction.FlatInstruction.{FlatInstruction}
+use Rattle.flat_code.specs.State.{State}
+use Rattle.flat_code.specs.Meaning.{right_value}
+use Rattle.flat_code.specs.declared.registers.Held.{Held}
+use Rattle.flat_code.specs.Routines.Routine.{Does, Outcome, Continues, Halts}
+use Rattle.flat_code.specs.Routines.Objects.StandsFor.{Views, Keys, Spells, StandsFor}
 use Rattle.flat_actions.specs.Judgement.Judging.{IsSameBut, EndsWith}
 
 -- ---- what they are given

@@ -11,12 +11,12 @@ use Rattle.source_meaning.specs.Blocks.{has_objects}
 use Rattle.tac_ir.specs.declared.function.CodeFunction.{CodeFunction}
 use Rattle.tac_ir.specs.declared.function.Tac.{Tac}
 use Rattle.tac_ir.specs.Meaning.{function_in as code_in}
-use Rattle.flat_meaning.specs.declared.instruction.FlatInstruction.{FlatInstruction}
-use Rattle.flat_meaning.specs.declared.instruction.FlatInstruction.TheVariants.{Constant, Store, Turn, Call, Exit}
-use Rattle.flat_meaning.specs.declared.function.FlatFunction.{FlatFunction}
-use Rattle.flat_meaning.specs.declared.function.FlatProgram.{FlatProgram}
-use Rattle.flat_meaning.specs.Calls.{function_in}
-use Rattle.flat_meaning.specs.Meaning.{parameters_of, results_of}
+use Rattle.flat_code.specs.declared.instruction.FlatInstruction.{FlatInstruction}
+use Rattle.flat_code.specs.declared.instruction.FlatInstruction.TheVariants.{Constant, Store, Turn, Call, Exit}
+use Rattle.flat_code.specs.declared.function.FlatFunction.{FlatFunction}
+use Rattle.flat_code.specs.declared.function.FlatProgram.{FlatProgram}
+use Rattle.flat_code.specs.Calls.{function_in}
+use Rattle.flat_code.specs.Meaning.{parameters_of, results_of}
 use Rattle.lib_wrappers.specs.AllocatingRoutines.Allocating.{keys_code, key_test}
 use Rattle.lib_wrappers.specs.AllocatingRoutines.Entering.{block_bytes}
 use Rattle.metadata_plan.specs.Blocks.{call_tests}
@@ -28,7 +28,8 @@ use Rattle.reg_plan.specs.Accepted.{HasHome}
 use Rattle.reg_plan.specs.Planned.{IsPlannable}
 use Rattle.image_laws.specs.Plans.Assignment.{Registers, IsOneOf, Goes, Begins, IsAssigned, Assigns, Names, HasOwnHomes}
 use Rattle.image_laws.proofs.Plans.Flow.{none_has}
-use Rattle.image_laws.proofs.Assignment.Flows.{Flows, followed, flow_assigns, flow_names, last_ends, LastIn, last_append}
+use Rattle.image_laws.proofs.Assignment.Flows.{Flows, followed, flow_assigns, flow_names, last_ends, LastIn}
+use Rattle.image_laws.proofs.Assignment.Flows.{last_append}
 use Rattle.image_laws.proofs.Assignment.Straight.{straight, nothing, stops_run}
 use Rattle.image_laws.proofs.Assignment.Pieces.{call_flows, forgotten, some_behind}
 use Rattle.image_laws.proofs.Assignment.Accesses.{AreOwn}

@@ -14,10 +14,10 @@ use Rattle.c_tree.specs.declared.program.Variable.{Variable}
 use Rattle.source_meaning.specs.Blocks.{has_objects}
 use Rattle.source_meaning.specs.Good.{plain_type}
 use Rattle.tac_ir.specs.declared.function.CodeFunction.{CodeFunction}
-use Rattle.flat_meaning.specs.declared.instruction.FlatInstruction.{FlatInstruction}
-use Rattle.flat_meaning.specs.declared.instruction.FlatInstruction.TheVariants.{Constant}
-use Rattle.flat_meaning.specs.declared.function.FlatProgram.{FlatProgram}
-use Rattle.flat_routines.specs.Metadata.{entry_registers}
+use Rattle.flat_code.specs.declared.instruction.FlatInstruction.{FlatInstruction}
+use Rattle.flat_code.specs.declared.instruction.FlatInstruction.TheVariants.{Constant}
+use Rattle.flat_code.specs.declared.function.FlatProgram.{FlatProgram}
+use Rattle.flat_code.specs.Routines.Metadata.{entry_registers}
 use Rattle.shadow_space.specs.Form.{EntryCode}
 use Rattle.runtime_functions.specs.declared.runtime.RuntimeFunction.TheVariants.{Enter}
 use Rattle.runtime_functions.specs.Library.{register_count as passed_count}
@@ -25,10 +25,13 @@ use Rattle.metadata_plan.specs.Registers.{all_variables}
 use Rattle.metadata_plan.specs.OperatorLists.Operators.{operators}
 use Rattle.metadata_relation.specs.Homes.{register_count}
 use Rattle.metadata_relation.specs.InlineLists.{inline_lists}
-use Rattle.metadata_relation.specs.Registers.{passed_as, parameters_end, area_words, parameter_words, variable_words, total}
-use Rattle.metadata_relation.specs.Registers.{before, register_in, variable_register, home_register, home_entry, first_free}
+use Rattle.metadata_relation.specs.Registers.{passed_as, parameters_end, area_words, parameter_words, variable_words}
+use Rattle.metadata_relation.specs.Registers.{total}
+use Rattle.metadata_relation.specs.Registers.{before, register_in, variable_register, home_register, home_entry}
+use Rattle.metadata_relation.specs.Registers.{first_free}
 use Rattle.metadata_relation.specs.Registers.{first_object, top_register}
-use Rattle.metadata_relation.specs.Blocks.{Expansion, zeros, zero_variables, store_parameter, store_parameters, enter_body}
+use Rattle.metadata_relation.specs.Blocks.{Expansion, zeros, zero_variables, store_parameter, store_parameters}
+use Rattle.metadata_relation.specs.Blocks.{enter_body}
 use Rattle.metadata_relation.specs.Blocks.{enter_code, enter_place, prologue, held_scalar, objects_of_body}
 use Rattle.metadata_relation.specs.Blocks.{result_of}
 use Rattle.metadata_relation.proofs.Registers.{count_in, plain_words}

@@ -16,7 +16,8 @@ use Rattle.c_tree.specs.declared.expression.Kind.TheVariants.{Void, Scalar as Of
 use Rattle.c_tree.specs.declared.expression.Update.{Update}
 use Rattle.c_tree.specs.declared.expression.Fixity.{Fixity}
 use Rattle.c_tree.specs.declared.expression.OffsetForm.{OffsetForm}
-use Rattle.c_tree.specs.declared.expression.OffsetForm.TheVariants.{PointerPlusIndex, IndexPlusPointer, PointerMinusIndex}
+use Rattle.c_tree.specs.declared.expression.OffsetForm.TheVariants.{PointerPlusIndex, IndexPlusPointer}
+use Rattle.c_tree.specs.declared.expression.OffsetForm.TheVariants.{PointerMinusIndex}
 use Rattle.c_tree.specs.Kinds.{size_of_kind}
 use Rattle.c_tree.specs.Valid.{at_number}
 use Rattle.source_meaning.specs.Good.{plain_type}
@@ -33,10 +34,10 @@ use Rattle.tac_ir.specs.declared.key.Key.{Key}
 use Rattle.tac_ir.specs.Edges.{successors}
 use Rattle.tac_ir.specs.Fitting.{is_update_of}
 use Rattle.tac_ir.specs.Meaning.{objects_in, text_in}
-use Rattle.flat_meaning.specs.declared.instruction.RightOperand.TheVariants.{Register, Number}
-use Rattle.flat_meaning.specs.declared.instruction.FlatInstruction.{FlatInstruction}
-use Rattle.flat_meaning.specs.declared.instruction.FlatInstruction.TheVariants.{Branch, Turn}
-use Rattle.flat_routines.specs.Metadata.{entry_registers}
+use Rattle.flat_code.specs.declared.instruction.RightOperand.TheVariants.{Register, Number}
+use Rattle.flat_code.specs.declared.instruction.FlatInstruction.{FlatInstruction}
+use Rattle.flat_code.specs.declared.instruction.FlatInstruction.TheVariants.{Branch, Turn}
+use Rattle.flat_code.specs.Routines.Metadata.{entry_registers}
 use Rattle.flat_operators.specs.Operators.{constant_code, conversion_code, unary_code, binary_code}
 use Rattle.flat_operators.specs.Pointers.{offset_code, difference_code}
 use Rattle.runtime_functions.specs.declared.runtime.RuntimeFunction.TheVariants.{Zero, CopyTagged, Enter}
@@ -50,9 +51,12 @@ use Rattle.metadata_relation.specs.InlineCode.{InlineCode}
 use Rattle.metadata_relation.specs.InlineLists.{inline_lists}
 use Rattle.metadata_relation.specs.Registers.{temporary_register, variable_register, first_free, home_register}
 use Rattle.metadata_relation.specs.Registers.{home_entry, lock_register, top_register}
-use Rattle.metadata_relation.specs.Blocks.{Expansion, block, untagged, move_value, move_entry_if, static_object, get_code, set_code}
-use Rattle.metadata_relation.specs.Blocks.{conversion, update_plain_code, update_code, named_address, named_size, path_range}
-use Rattle.metadata_relation.specs.Blocks.{judge_code, check_code, compare_code, runtime_number, zero_place, enter_place}
+use Rattle.metadata_relation.specs.Blocks.{Expansion, block, untagged, move_value, move_entry_if, static_object}
+use Rattle.metadata_relation.specs.Blocks.{get_code, set_code}
+use Rattle.metadata_relation.specs.Blocks.{conversion, update_plain_code, update_code, named_address, named_size}
+use Rattle.metadata_relation.specs.Blocks.{path_range}
+use Rattle.metadata_relation.specs.Blocks.{judge_code, check_code, compare_code, runtime_number, zero_place}
+use Rattle.metadata_relation.specs.Blocks.{enter_place}
 use Rattle.metadata_relation.specs.Structures.{copy_place}
 use Rattle.c_lower.specs.Liveness.Liveness.{reads, is_right}
 use Rattle.image_laws.specs.Plans.Assignment.{Registers, IsOneOf, passed_over}
@@ -64,17 +68,21 @@ use Rattle.image_laws.proofs.Assignment.Straight.{AreIn, are_in_more, straight, 
 use Rattle.image_laws.proofs.Assignment.Operators.{constant_gives, conversion_gives, unary_gives, binary_gives}
 use Rattle.image_laws.proofs.Assignment.Operators.{quiet_last}
 use Rattle.image_laws.proofs.Assignment.Pointers.{Value, given_value, offset_value, difference_value}
-use Rattle.image_laws.proofs.Assignment.Values.{Block, named_address as known_address, moved_block, word_block, zero_block}
-use Rattle.image_laws.proofs.Assignment.Values.{set_pointer, set_word, integer, last_moved, move_entry_flows, constant_flows}
+use Rattle.image_laws.proofs.Assignment.Values.{Block, named_address as known_address, moved_block, word_block}
+use Rattle.image_laws.proofs.Assignment.Values.{zero_block}
+use Rattle.image_laws.proofs.Assignment.Values.{set_pointer, set_word, integer, last_moved, move_entry_flows}
+use Rattle.image_laws.proofs.Assignment.Values.{constant_flows}
 use Rattle.image_laws.proofs.Assignment.Temporaries.{all_one_of}
 use Rattle.image_laws.proofs.Assignment.Accesses.{is_pointer, loaded_block, written_block}
-use Rattle.image_laws.proofs.Assignment.Updates.{IsRight, updated_integer, updated_pointer, changed_integer, changed_pointer}
+use Rattle.image_laws.proofs.Assignment.Updates.{IsRight, updated_integer, updated_pointer, changed_integer}
+use Rattle.image_laws.proofs.Assignment.Updates.{changed_pointer}
 use Rattle.image_laws.proofs.Assignment.Checks.{narrowed_block, checked_block, ranged_block, part_flows, stored_part}
 use Rattle.image_laws.proofs.Assignment.Checks.{stored_text, zeroed_block}
 use Rattle.image_laws.proofs.Assignment.Structures.{assigned_structure, stored_structure}
 use Rattle.image_laws.proofs.Assignment.Homes.{named_block, entered_block, left_flows}
 use Rattle.image_laws.proofs.Assignment.Sites.{Site, P as NamedAt, B as BlockAt, Has as HasAt, temporary_named, own}
-use Rattle.image_laws.proofs.Assignment.Sites.{home_named, top_named, variable_named, free_named, itself, no_entry, word}
+use Rattle.image_laws.proofs.Assignment.Sites.{home_named, top_named, variable_named, free_named, itself, no_entry}
+use Rattle.image_laws.proofs.Assignment.Sites.{word}
 use Rattle.image_laws.proofs.Assignment.Sites.{stopped, from_source, tagged_in}
 use Rattle.image_laws.proofs.Assignment.CallBlocks.{print, call, through, return, library_block}
 

@@ -22,11 +22,11 @@ use Rattle.tac_ir.specs.declared.instruction.Instruction.TheVariants as tac
 use Rattle.tac_ir.specs.declared.function.CodeFunction.{CodeFunction}
 use Rattle.tac_ir.specs.Edges.{successors}
 use Rattle.tac_ir.specs.Meaning.{function_in, text_in}
-use Rattle.flat_meaning.specs.declared.instruction.FlatInstruction.{FlatInstruction}
-use Rattle.flat_meaning.specs.declared.instruction.FlatInstruction.TheVariants.{Call, CallAddress}
-use Rattle.flat_meaning.specs.declared.instruction.FlatInstruction.TheVariants.{Return, Get, Put, Exit, End}
-use Rattle.flat_meaning.specs.Calls.{function_in as flat_function}
-use Rattle.flat_meaning.specs.Meaning.{results_of}
+use Rattle.flat_code.specs.declared.instruction.FlatInstruction.{FlatInstruction}
+use Rattle.flat_code.specs.declared.instruction.FlatInstruction.TheVariants.{Call, CallAddress}
+use Rattle.flat_code.specs.declared.instruction.FlatInstruction.TheVariants.{Return, Get, Put, Exit, End}
+use Rattle.flat_code.specs.Calls.{function_in as flat_function}
+use Rattle.flat_code.specs.Meaning.{results_of}
 use Rattle.flat_operators.specs.Operators.{conversion_code}
 use Rattle.runtime_functions.specs.declared.library.LibraryFunction.{LibraryFunction}
 use Rattle.runtime_functions.specs.declared.library.LibraryFunction.TheVariants as library
@@ -48,7 +48,8 @@ use Rattle.metadata_relation.specs.Registers.{passed_as, result_words, area_word
 use Rattle.metadata_relation.specs.Registers.{parameters_end}
 use Rattle.metadata_relation.specs.Blocks.{block, untagged}
 use Rattle.metadata_relation.specs.Blocks.{runtime_number}
-use Rattle.metadata_relation.specs.Blocks.{library_place, statuses_of, status_code, runtime_call, library_code, leave_code}
+use Rattle.metadata_relation.specs.Blocks.{library_place, statuses_of, status_code, runtime_call, library_code}
+use Rattle.metadata_relation.specs.Blocks.{leave_code}
 use Rattle.metadata_relation.specs.Blocks.{objects_of_body, result_of, call_code, call_of, object_tests, callee_tests}
 use Rattle.metadata_relation.specs.Blocks.{room_tests, unknown_object_tests, through_code, through_of}
 use Rattle.c_lower.specs.Liveness.Liveness.{reads, is_among}
@@ -71,8 +72,10 @@ use Rattle.image_laws.proofs.Assignment.Calls.{passed_from, AreReady, call_tests
 use Rattle.image_laws.proofs.Assignment.Calls.{callee_flows, room_flows, unknown_flows, served_block, called_block}
 use Rattle.image_laws.proofs.Assignment.Calls.{passed_total, total_few, no_area}
 use Rattle.image_laws.proofs.Assignment.Printing.{AreGiven, HaveStrings, printed_block}
-use Rattle.image_laws.proofs.Assignment.Sites.{Site, P as NamedAt, B as BlockAt, Has as HasAt, kinds_passed, kinds_length}
-use Rattle.image_laws.proofs.Assignment.Sites.{passed_length, library_at, statuses_end, kinds_taken, temporary_named, own}
+use Rattle.image_laws.proofs.Assignment.Sites.{Site, P as NamedAt, B as BlockAt, Has as HasAt, kinds_passed}
+use Rattle.image_laws.proofs.Assignment.Sites.{kinds_length}
+use Rattle.image_laws.proofs.Assignment.Sites.{passed_length, library_at, statuses_end, kinds_taken, temporary_named}
+use Rattle.image_laws.proofs.Assignment.Sites.{own}
 use Rattle.image_laws.proofs.Assignment.Sites.{moved_named, free_named, itself, word, stopped, tagged_in}
 
 module _ (site : Site) where

@@ -15,14 +15,14 @@ use Rattle.c_tree.specs.declared.expression.Kind.TheVariants.{Void, Scalar as Of
 use Rattle.c_tree.specs.declared.program.Variable.{Variable}
 use Rattle.source_meaning.specs.Blocks.{has_objects}
 use Rattle.tac_ir.specs.declared.function.CodeFunction.{CodeFunction}
-use Rattle.flat_meaning.specs.declared.instruction.RightOperand.TheVariants.{Register, Number}
-use Rattle.flat_meaning.specs.declared.instruction.FlatInstruction.{FlatInstruction}
-use Rattle.flat_meaning.specs.declared.instruction.FlatInstruction.TheVariants.{Constant, Move, Operate, Load, Branch}
-use Rattle.flat_meaning.specs.declared.instruction.FlatInstruction.TheVariants.{Call, End}
-use Rattle.flat_meaning.specs.declared.function.FlatProgram.{FlatProgram}
-use Rattle.flat_meaning.specs.Calls.{function_in}
-use Rattle.flat_meaning.specs.Meaning.{parameters_of, results_of}
-use Rattle.flat_routines.specs.Routine.{unless_code}
+use Rattle.flat_code.specs.declared.instruction.RightOperand.TheVariants.{Register, Number}
+use Rattle.flat_code.specs.declared.instruction.FlatInstruction.{FlatInstruction}
+use Rattle.flat_code.specs.declared.instruction.FlatInstruction.TheVariants.{Constant, Move, Operate, Load, Branch}
+use Rattle.flat_code.specs.declared.instruction.FlatInstruction.TheVariants.{Call, End}
+use Rattle.flat_code.specs.declared.function.FlatProgram.{FlatProgram}
+use Rattle.flat_code.specs.Calls.{function_in}
+use Rattle.flat_code.specs.Meaning.{parameters_of, results_of}
+use Rattle.flat_code.specs.Routines.Routine.{unless_code}
 use Rattle.flat_operators.specs.Operators.{wide_code}
 use Rattle.lib_wrappers.specs.AllocatingRoutines.Allocating.{keys_code, key_test}
 use Rattle.lib_wrappers.specs.AllocatingRoutines.Entering.{block_bytes}
@@ -38,7 +38,8 @@ use Rattle.metadata_relation.specs.Blocks.{callee_tests, room_tests, units_tests
 use Rattle.image_laws.specs.Plans.Assignment.{Registers, IsOneOf}
 use Rattle.image_laws.specs.Plans.Instructions.{numbers_from, value_of, result_made, is_no_structure}
 use Rattle.image_laws.proofs.Assignment.Flows.{Flows, LastIn, followed, and_then, wider, last_append, last_ends}
-use Rattle.image_laws.proofs.Assignment.Straight.{AllFrom, AreIn, are_in_more, one_in, Straight, straight, nothing, along}
+use Rattle.image_laws.proofs.Assignment.Straight.{AllFrom, AreIn, are_in_more, one_in, Straight, straight, nothing}
+use Rattle.image_laws.proofs.Assignment.Straight.{along}
 use Rattle.image_laws.proofs.Assignment.Operators.{are_quiet, quiet_last, wide_flow}
 use Rattle.image_laws.proofs.Assignment.Choices.{unless}
 use Rattle.image_laws.proofs.Assignment.Values.{Block, integer, move_flows, moved_block, word_block, zero_block}

@@ -11,14 +11,14 @@ use Rattle.obj_memory.specs.declared.value.Scalar.TheVariants.{Integer, Pointer}
 use Rattle.tac_ir.specs.declared.instruction.Test.{Test}
 use Rattle.tac_ir.specs.declared.instruction.Test.TheVariants.{Spatial, Temporal}
 use Rattle.tac_ir.specs.declared.function.CodeFunction.{CodeFunction}
-use Rattle.flat_meaning.specs.declared.instruction.RightOperand.{RightOperand}
-use Rattle.flat_meaning.specs.declared.instruction.RightOperand.TheVariants.{Register}
-use Rattle.flat_meaning.specs.declared.instruction.FlatInstruction.{FlatInstruction}
-use Rattle.flat_meaning.specs.declared.instruction.FlatInstruction.TheVariants.{Move, Operate, Branch, Call}
-use Rattle.flat_meaning.specs.declared.instruction.FlatInstruction.TheVariants.{End}
-use Rattle.flat_meaning.specs.declared.function.FlatProgram.{FlatProgram}
-use Rattle.flat_meaning.specs.Calls.{function_in}
-use Rattle.flat_meaning.specs.Meaning.{parameters_of, results_of}
+use Rattle.flat_code.specs.declared.instruction.RightOperand.{RightOperand}
+use Rattle.flat_code.specs.declared.instruction.RightOperand.TheVariants.{Register}
+use Rattle.flat_code.specs.declared.instruction.FlatInstruction.{FlatInstruction}
+use Rattle.flat_code.specs.declared.instruction.FlatInstruction.TheVariants.{Move, Operate, Branch, Call}
+use Rattle.flat_code.specs.declared.instruction.FlatInstruction.TheVariants.{End}
+use Rattle.flat_code.specs.declared.function.FlatProgram.{FlatProgram}
+use Rattle.flat_code.specs.Calls.{function_in}
+use Rattle.flat_code.specs.Meaning.{parameters_of, results_of}
 use Rattle.flat_operators.specs.Operators.{constant_code}
 use Rattle.flat_actions.specs.Judgement.Code.{spatial_code}
 use Rattle.flat_actions.specs.Narrowing.{narrow_code as narrow_list}
@@ -39,7 +39,8 @@ use Rattle.image_laws.proofs.Assignment.Flows.{Flows, LastIn, followed, wider, l
 use Rattle.image_laws.proofs.Assignment.Straight.{AreIn, are_in_more, Straight, straight, ends_run}
 use Rattle.image_laws.proofs.Assignment.Operators.{are_quiet, quiet_last}
 use Rattle.image_laws.proofs.Assignment.Pointers.{spatial_flows, temporal_flows, narrow_flows, more_operand}
-use Rattle.image_laws.proofs.Assignment.Values.{Block, move_flows, number_flows, number_last, constant_flows, quiet_constant}
+use Rattle.image_laws.proofs.Assignment.Values.{Block, move_flows, number_flows, number_last, constant_flows}
+use Rattle.image_laws.proofs.Assignment.Values.{quiet_constant}
 use Rattle.image_laws.proofs.Assignment.Temporaries.{all_one_of}
 use Rattle.image_laws.proofs.Assignment.Pieces.{call_flows, call_last, some_behind, two_from, one_from}
 use Rattle.image_laws.proofs.Assignment.Accesses.{AreOwn, fewer_own, is_pointer, scalar_registers, store_flows}

@@ -5,13 +5,13 @@ use Rattle.std.specs.Prelude.{get_or}
 use Rattle.addr_map.specs.Places.{MapSizes}
 use Rattle.rv_isa.specs.declared.instruction.BranchOp.TheVariants.{Beq, Bne}
 use Rattle.rv_isa.specs.declared.instruction.RegOp.TheVariants.{Add, Sll}
-use Rattle.flat_meaning.specs.declared.instruction.RightOperand.TheVariants.{Register, Number}
-use Rattle.flat_meaning.specs.declared.instruction.FlatInstruction.{FlatInstruction}
-use Rattle.flat_meaning.specs.declared.instruction.FlatInstruction.TheVariants.{Constant, Operate, Branch}
-use Rattle.flat_meaning.specs.declared.function.FlatProgram.{FlatProgram}
-use Rattle.flat_routines.specs.declared.registers.Entry.{Entry}
-use Rattle.flat_routines.specs.Routine.{unless_code}
-use Rattle.flat_routines.specs.Metadata.{entry_registers}
+use Rattle.flat_code.specs.declared.instruction.RightOperand.TheVariants.{Register, Number}
+use Rattle.flat_code.specs.declared.instruction.FlatInstruction.{FlatInstruction}
+use Rattle.flat_code.specs.declared.instruction.FlatInstruction.TheVariants.{Constant, Operate, Branch}
+use Rattle.flat_code.specs.declared.function.FlatProgram.{FlatProgram}
+use Rattle.flat_code.specs.declared.registers.Entry.{Entry}
+use Rattle.flat_code.specs.Routines.Routine.{unless_code}
+use Rattle.flat_code.specs.Routines.Metadata.{entry_registers}
 use Rattle.shadow_space.specs.Direct.{direct_read, direct_write, load_entry, store_entry}
 use Rattle.shadow_space.specs.TwoLevel.Code.{look_up, take_table, two_level_read_behind, two_level_write_behind}
 use Rattle.reg_plan.specs.Effects.{made_by, is_among, one}

@@ -13,15 +13,15 @@ use Rattle.tac_ir.specs.declared.instruction.Instruction.{Instruction}
 use Rattle.tac_ir.specs.declared.instruction.Instruction.TheVariants as tac
 use Rattle.tac_ir.specs.declared.function.CodeFunction.{CodeFunction}
 use Rattle.tac_ir.specs.Edges.{successors}
-use Rattle.flat_meaning.specs.declared.instruction.FlatInstruction.{FlatInstruction}
-use Rattle.flat_meaning.specs.declared.instruction.FlatInstruction.TheVariants.{Constant, Move, Operate}
-use Rattle.flat_meaning.specs.declared.instruction.FlatInstruction.TheVariants.{Load, Store, Return, End}
-use Rattle.flat_meaning.specs.declared.function.FlatFunction.{FlatFunction}
-use Rattle.flat_meaning.specs.declared.function.FlatProgram.{FlatProgram}
-use Rattle.flat_meaning.specs.Calls.{function_in as flat_function}
-use Rattle.flat_meaning.specs.Meaning.{parameters_of, results_of}
-use Rattle.flat_meaning.specs.Memory.{Bytes}
-use Rattle.flat_routines.specs.Metadata.{View}
+use Rattle.flat_code.specs.declared.instruction.FlatInstruction.{FlatInstruction}
+use Rattle.flat_code.specs.declared.instruction.FlatInstruction.TheVariants.{Constant, Move, Operate}
+use Rattle.flat_code.specs.declared.instruction.FlatInstruction.TheVariants.{Load, Store, Return, End}
+use Rattle.flat_code.specs.declared.function.FlatFunction.{FlatFunction}
+use Rattle.flat_code.specs.declared.function.FlatProgram.{FlatProgram}
+use Rattle.flat_code.specs.Calls.{function_in as flat_function}
+use Rattle.flat_code.specs.Meaning.{parameters_of, results_of}
+use Rattle.flat_code.specs.Memory.{Bytes}
+use Rattle.flat_code.specs.Routines.Metadata.{View}
 use Rattle.shadow_space.specs.Form.{EntryCode}
 use Rattle.runtime_functions.specs.declared.runtime.RuntimeFunction.{RuntimeFunction}
 use Rattle.runtime_functions.specs.Runtime.{argument_count, result_count}
@@ -35,7 +35,8 @@ use Rattle.metadata_relation.specs.Laid.{function_of}
 use Rattle.metadata_relation.specs.Registers.{temporary_register, variable_register, parameters_end, area_words}
 use Rattle.metadata_relation.specs.Registers.{result_words, total, variable_words}
 use Rattle.metadata_relation.specs.Waiting.{Layout}
-use Rattle.metadata_relation.specs.Blocks.{Expansion, block, prologue, objects_of_body, result_of, runtime_number, leave_code}
+use Rattle.metadata_relation.specs.Blocks.{Expansion, block, prologue, objects_of_body, result_of, runtime_number}
+use Rattle.metadata_relation.specs.Blocks.{leave_code}
 use Rattle.metadata_relation.proofs.Registers.{count_in}
 use Rattle.reg_plan.specs.Effects.{Leads}
 use Rattle.reg_plan.specs.Planned.{IsPlannable}

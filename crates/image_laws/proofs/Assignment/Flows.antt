@@ -1,14 +1,15 @@
 -- Code that assigns what it reads, by what is assigned before each of its instructions; and such code behind such code.
-use Rattle.std.proofs.Common.{◌≡◌, ◌⊎◌, inl, inr, ⊎_elim, ℕ, zero, suc, ◌+◌, ◌-◌, ◌<◌, ◌≤◌, refl, sym, ap, ◌∙◌, subst, arith}
+use Rattle.std.proofs.Common.{◌≡◌, ◌⊎◌, inl, inr, ⊎_elim, ℕ, zero, suc, ◌+◌, ◌-◌, ◌<◌, ◌≤◌, refl, sym, ap, ◌∙◌, subst}
+use Rattle.std.proofs.Common.{arith}
 use Rattle.std.proofs.Common.{true, false, Bool, List, [], ◌∷◌, ◌++◌, length, length-append, append-nil, Some, None}
 use Rattle.std.specs.Prelude.{slice_get}
 use Rattle.std.proofs.lemmas.Bool.{cases_lt, both_ways}
 use Rattle.std.proofs.lemmas.Option.{same_Some, none-some, slice_get_within}
-use Rattle.flat_meaning.specs.declared.instruction.FlatInstruction.{FlatInstruction}
-use Rattle.flat_meaning.specs.declared.instruction.FlatInstruction.TheVariants.{Constant, Move, Operate, Operate32}
-use Rattle.flat_meaning.specs.declared.instruction.FlatInstruction.TheVariants.{Load, Branch, JumpForward, JumpBack}
-use Rattle.flat_meaning.specs.declared.instruction.FlatInstruction.TheVariants.{Call, CallAddress, Get, Charged}
-use Rattle.flat_meaning.specs.declared.function.FlatProgram.{FlatProgram}
+use Rattle.flat_code.specs.declared.instruction.FlatInstruction.{FlatInstruction}
+use Rattle.flat_code.specs.declared.instruction.FlatInstruction.TheVariants.{Constant, Move, Operate, Operate32}
+use Rattle.flat_code.specs.declared.instruction.FlatInstruction.TheVariants.{Load, Branch, JumpForward, JumpBack}
+use Rattle.flat_code.specs.declared.instruction.FlatInstruction.TheVariants.{Call, CallAddress, Get, Charged}
+use Rattle.flat_code.specs.declared.function.FlatProgram.{FlatProgram}
 use Rattle.reg_plan.specs.Effects.{read_by, is_read, made_by, makes_only, is_among, Leads}
 use Rattle.reg_plan.specs.Needs.{AlwaysMakesAt}
 use Rattle.image_laws.specs.Plans.Assignment.{Registers, IsOneOf, Way, Begins, Goes, IsMadeOn, IsAssigned, StaysWithin}

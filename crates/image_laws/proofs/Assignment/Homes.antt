@@ -10,21 +10,22 @@ use Rattle.c_tree.specs.declared.program.Variable.{Variable}
 use Rattle.c_tree.specs.Kinds.{size_of_kind}
 use Rattle.tac_ir.specs.declared.function.CodeFunction.{CodeFunction}
 use Rattle.tac_ir.specs.declared.function.Tac.{Tac}
-use Rattle.flat_meaning.specs.declared.instruction.RightOperand.{RightOperand}
-use Rattle.flat_meaning.specs.declared.instruction.FlatInstruction.{FlatInstruction}
-use Rattle.flat_meaning.specs.declared.instruction.FlatInstruction.TheVariants.{Constant, Move, Operate, Load}
-use Rattle.flat_meaning.specs.declared.instruction.FlatInstruction.TheVariants.{Call}
-use Rattle.flat_meaning.specs.declared.function.FlatProgram.{FlatProgram}
-use Rattle.flat_meaning.specs.Calls.{function_in}
-use Rattle.flat_meaning.specs.Meaning.{parameters_of, results_of}
-use Rattle.flat_routines.specs.declared.registers.Entry.{Entry}
-use Rattle.flat_routines.specs.Metadata.{entry_registers}
+use Rattle.flat_code.specs.declared.instruction.RightOperand.{RightOperand}
+use Rattle.flat_code.specs.declared.instruction.FlatInstruction.{FlatInstruction}
+use Rattle.flat_code.specs.declared.instruction.FlatInstruction.TheVariants.{Constant, Move, Operate, Load}
+use Rattle.flat_code.specs.declared.instruction.FlatInstruction.TheVariants.{Call}
+use Rattle.flat_code.specs.declared.function.FlatProgram.{FlatProgram}
+use Rattle.flat_code.specs.Calls.{function_in}
+use Rattle.flat_code.specs.Meaning.{parameters_of, results_of}
+use Rattle.flat_code.specs.declared.registers.Entry.{Entry}
+use Rattle.flat_code.specs.Routines.Metadata.{entry_registers}
 use Rattle.flat_operators.specs.Operators.{constant_code}
 use Rattle.lib_wrappers.specs.AllocatingRoutines.Entering.{block_bytes, leave_code as leave_list}
 use Rattle.runtime_functions.specs.Library.{held_from}
 use Rattle.metadata_plan.specs.OperatorLists.Operators.{operators}
 use Rattle.metadata_relation.specs.Registers.{home_register, home_entry, top_register, first_free}
-use Rattle.metadata_relation.specs.Blocks.{move_entry_if, move_entry, home_code, number_code, number_operand, place_home}
+use Rattle.metadata_relation.specs.Blocks.{move_entry_if, move_entry, home_code, number_code, number_operand}
+use Rattle.metadata_relation.specs.Blocks.{place_home}
 use Rattle.metadata_relation.specs.Blocks.{place_homes, enter_code, enter_statuses, enter_place, runtime_number}
 use Rattle.metadata_relation.specs.Blocks.{write_top, top_cell, status_code}
 use Rattle.image_laws.specs.Plans.Assignment.{Registers, IsOneOf}

@@ -21,8 +21,8 @@ use Rattle.tac_ir.specs.declared.function.CodeFunction.{CodeFunction}
 use Rattle.tac_ir.specs.Edges.{successors}
 use Rattle.tac_ir.specs.Meaning.{objects_in}
 use Rattle.tac_ir.specs.Temporaries.{temporaries, right_count}
-use Rattle.flat_meaning.specs.declared.function.FlatProgram.{FlatProgram}
-use Rattle.flat_routines.specs.Metadata.{entry_registers}
+use Rattle.flat_code.specs.declared.function.FlatProgram.{FlatProgram}
+use Rattle.flat_code.specs.Routines.Metadata.{entry_registers}
 use Rattle.shadow_space.specs.Form.{EntryCode}
 use Rattle.metadata_plan.specs.Entries.{can_compare, key_in}
 use Rattle.metadata_plan.specs.Registers.{all_variables, most_temporaries}

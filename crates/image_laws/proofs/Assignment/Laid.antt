@@ -8,9 +8,9 @@ use Rattle.std.proofs.lemmas.Option.{same_Some, none-some, slice_get_within}
 use Rattle.tac_ir.specs.declared.instruction.Instruction.{Instruction}
 use Rattle.tac_ir.specs.declared.function.CodeFunction.{CodeFunction}
 use Rattle.tac_ir.specs.Edges.{successors, LeadsTo, IsAmong}
-use Rattle.flat_meaning.specs.declared.instruction.FlatInstruction.{FlatInstruction}
-use Rattle.flat_meaning.specs.declared.function.FlatFunction.{FlatFunction}
-use Rattle.flat_meaning.specs.declared.function.FlatProgram.{FlatProgram}
+use Rattle.flat_code.specs.declared.instruction.FlatInstruction.{FlatInstruction}
+use Rattle.flat_code.specs.declared.function.FlatFunction.{FlatFunction}
+use Rattle.flat_code.specs.declared.function.FlatProgram.{FlatProgram}
 use Rattle.metadata_plan.specs.Laid.{jump, times_in, falls, jump_count, size_at, size_from, begin_size}
 use Rattle.metadata_plan.specs.Laid.{place_of, begin_code, body_of}
 use Rattle.metadata_plan.proofs.Laying.{part_of, part_length, begin_length, place_is, next_place}
@@ -22,7 +22,8 @@ use Rattle.check_elim.specs.Paths.{Path, Start, On}
 use Rattle.image_laws.specs.Plans.Assignment.{Registers, IsOneOf, Begins, Goes, IsAssigned}
 use Rattle.image_laws.specs.Plans.Assignment.{IsMadeBefore, IsAssignedAt, IsBegun, passed_over, Assigns, AssignsAll}
 use Rattle.image_laws.specs.Plans.Assignment.{NamesBelow, HasOwnHomes}
-use Rattle.image_laws.proofs.Plans.Places.{get_append, jump_onward, jump_makes, jump_reads, IsOfNode, body_at, Stands, InBlock}
+use Rattle.image_laws.proofs.Plans.Places.{get_append, jump_onward, jump_makes, jump_reads, IsOfNode, body_at, Stands}
+use Rattle.image_laws.proofs.Plans.Places.{InBlock}
 use Rattle.image_laws.proofs.Plans.Places.{Jumps, stands_at}
 use Rattle.image_laws.proofs.Assignment.Leading.{LeadsFrom, leads_from}
 use Rattle.image_laws.proofs.Assignment.Nodes.{there, one_node, behind_begin, falls_only, falls_within}

@@ -8,7 +8,7 @@ use Rattle.tac_ir.specs.declared.instruction.Instruction.{Instruction}
 use Rattle.tac_ir.specs.declared.instruction.Instruction.TheVariants as tac
 use Rattle.tac_ir.specs.declared.function.CodeFunction.{CodeFunction}
 use Rattle.tac_ir.specs.Edges.{successors, LeadsTo, IsAmong}
-use Rattle.flat_meaning.specs.declared.instruction.FlatInstruction.{FlatInstruction}
+use Rattle.flat_code.specs.declared.instruction.FlatInstruction.{FlatInstruction}
 use Rattle.metadata_plan.specs.Laid.{times_in, falls, size_at, begin_size, place_of}
 use Rattle.metadata_plan.proofs.Laying.{place_is, next_place}
 use Rattle.image_laws.proofs.Plans.Places.{edges_one, edges_two, falls_alone}

@@ -6,14 +6,14 @@ use Rattle.std.proofs.lemmas.Bool.{and_parts, and_from}
 use Rattle.rv_isa.specs.declared.instruction.RegOp.{RegOp}
 use Rattle.rv_isa.specs.declared.instruction.RegOp.TheVariants.{Add, Sub, Mul, Div}
 use Rattle.rv_isa.specs.declared.instruction.BranchOp.TheVariants.{Beq, Bgeu, Bltu}
-use Rattle.flat_meaning.specs.declared.instruction.RightOperand.{RightOperand}
-use Rattle.flat_meaning.specs.declared.instruction.RightOperand.TheVariants.{Register, Number}
-use Rattle.flat_meaning.specs.declared.instruction.FlatInstruction.{FlatInstruction}
-use Rattle.flat_meaning.specs.declared.instruction.FlatInstruction.TheVariants.{Operate, Move}
-use Rattle.flat_meaning.specs.declared.function.FlatProgram.{FlatProgram}
-use Rattle.flat_routines.specs.declared.registers.Held.{Held}
-use Rattle.flat_routines.specs.Routine.{unless_code}
-use Rattle.flat_routines.specs.Metadata.{held_registers}
+use Rattle.flat_code.specs.declared.instruction.RightOperand.{RightOperand}
+use Rattle.flat_code.specs.declared.instruction.RightOperand.TheVariants.{Register, Number}
+use Rattle.flat_code.specs.declared.instruction.FlatInstruction.{FlatInstruction}
+use Rattle.flat_code.specs.declared.instruction.FlatInstruction.TheVariants.{Operate, Move}
+use Rattle.flat_code.specs.declared.function.FlatProgram.{FlatProgram}
+use Rattle.flat_code.specs.declared.registers.Held.{Held}
+use Rattle.flat_code.specs.Routines.Routine.{unless_code}
+use Rattle.flat_code.specs.Routines.Metadata.{held_registers}
 use Rattle.flat_operators.specs.Pointers.{shift_of, scaled_by, offset_code, difference_code}
 use Rattle.flat_operators.specs.Operators.{constant_code}
 use Rattle.flat_actions.specs.Judgement.Code.{spatial_code, temporal_code}

@@ -9,17 +9,18 @@ use Rattle.c_tree.specs.declared.format.Piece.TheVariants as piece
 use Rattle.c_tree.specs.Format.{directives}
 use Rattle.tac_ir.specs.declared.function.CodeFunction.{CodeFunction}
 use Rattle.tac_ir.specs.declared.function.Tac.{Tac}
-use Rattle.flat_meaning.specs.declared.instruction.RightOperand.TheVariants.{Register}
-use Rattle.flat_meaning.specs.declared.instruction.FlatInstruction.{FlatInstruction}
-use Rattle.flat_meaning.specs.declared.instruction.FlatInstruction.TheVariants.{Call, Constant, Move, Operate}
-use Rattle.flat_meaning.specs.declared.function.FlatProgram.{FlatProgram}
-use Rattle.flat_meaning.specs.Calls.{function_in}
-use Rattle.flat_meaning.specs.Meaning.{parameters_of, results_of}
+use Rattle.flat_code.specs.declared.instruction.RightOperand.TheVariants.{Register}
+use Rattle.flat_code.specs.declared.instruction.FlatInstruction.{FlatInstruction}
+use Rattle.flat_code.specs.declared.instruction.FlatInstruction.TheVariants.{Call, Constant, Move, Operate}
+use Rattle.flat_code.specs.declared.function.FlatProgram.{FlatProgram}
+use Rattle.flat_code.specs.Calls.{function_in}
+use Rattle.flat_code.specs.Meaning.{parameters_of, results_of}
 use Rattle.runtime_functions.specs.declared.runtime.RuntimeFunction.TheVariants.{Scan, PutBytes, PutNumber}
 use Rattle.lib_wrappers.specs.PrintingRoutines.Formats.{byte_code, counted_code}
 use Rattle.metadata_relation.specs.Registers.{temporary_register}
 use Rattle.metadata_relation.specs.Printing.{scan_place, range_place, scan_statuses, string_register}
-use Rattle.metadata_relation.specs.Printing.{end_register, scan_argument, scan_pieces, put_argument, put_pieces, print_code}
+use Rattle.metadata_relation.specs.Printing.{end_register, scan_argument, scan_pieces, put_argument, put_pieces}
+use Rattle.metadata_relation.specs.Printing.{print_code}
 use Rattle.metadata_relation.specs.Blocks.{runtime_number, status_code, untagged}
 use Rattle.metadata_relation.specs.Registers.{first_free}
 use Rattle.image_laws.specs.Plans.Assignment.{Registers, IsOneOf}

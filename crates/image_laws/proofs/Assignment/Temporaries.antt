@@ -11,7 +11,7 @@ use Rattle.tac_ir.specs.declared.instruction.Instruction.TheVariants as tac
 use Rattle.tac_ir.specs.declared.function.CodeFunction.{CodeFunction}
 use Rattle.tac_ir.specs.Edges.{LeadsTo}
 use Rattle.tac_ir.specs.Meaning.{function_in}
-use Rattle.flat_routines.specs.Metadata.{entry_registers}
+use Rattle.flat_code.specs.Routines.Metadata.{entry_registers}
 use Rattle.runtime_functions.specs.Library.{held_from}
 use Rattle.metadata_plan.specs.Entries.{IsOther, given}
 use Rattle.metadata_relation.specs.Registers.{temporary_register}

@@ -16,21 +16,23 @@ use Rattle.tac_ir.specs.declared.instruction.RightOperand.{RightOperand}
 use Rattle.tac_ir.specs.declared.instruction.RightOperand.TheVariants.{Temporary, One}
 use Rattle.tac_ir.specs.declared.function.CodeFunction.{CodeFunction}
 use Rattle.tac_ir.specs.Fitting.{is_update_of}
-use Rattle.flat_meaning.specs.declared.instruction.FlatInstruction.{FlatInstruction}
-use Rattle.flat_meaning.specs.declared.instruction.FlatInstruction.TheVariants.{Constant, Move}
-use Rattle.flat_meaning.specs.declared.function.FlatProgram.{FlatProgram}
-use Rattle.flat_routines.specs.declared.registers.Held.{Held}
+use Rattle.flat_code.specs.declared.instruction.FlatInstruction.{FlatInstruction}
+use Rattle.flat_code.specs.declared.instruction.FlatInstruction.TheVariants.{Constant, Move}
+use Rattle.flat_code.specs.declared.function.FlatProgram.{FlatProgram}
+use Rattle.flat_code.specs.declared.registers.Held.{Held}
 use Rattle.flat_operators.specs.Operators.{conversion_code, binary_code}
 use Rattle.flat_operators.specs.Pointers.{offset_code}
 use Rattle.shadow_space.specs.Form.{EntryCode}
-use Rattle.lib_wrappers.specs.declared.accesses.held.HeldScalar.TheVariants.{Integer as HeldInteger, Pointer as HeldPointer}
+use Rattle.lib_wrappers.specs.declared.accesses.held.HeldScalar.TheVariants.{Integer as HeldInteger}
+use Rattle.lib_wrappers.specs.declared.accesses.held.HeldScalar.TheVariants.{Pointer as HeldPointer}
 use Rattle.lib_wrappers.specs.AccessRoutines.Accessing.{load_code, store_code}
 use Rattle.runtime_functions.specs.Library.{held_from}
 use Rattle.metadata_plan.specs.OperatorLists.Operators.{operators}
 use Rattle.metadata_relation.specs.Registers.{temporary_register}
 use Rattle.metadata_relation.specs.InlineCode.{InlineCode}
 use Rattle.metadata_relation.specs.InlineLists.{inline_lists}
-use Rattle.metadata_relation.specs.Blocks.{untagged, move_entry_if, right_code, right_register, new_integer, new_address}
+use Rattle.metadata_relation.specs.Blocks.{untagged, move_entry_if, right_code, right_register, new_integer}
+use Rattle.metadata_relation.specs.Blocks.{new_address}
 use Rattle.metadata_relation.specs.Blocks.{given_register, update_plain_code, update_code}
 use Rattle.image_laws.specs.Plans.Assignment.{Registers, IsOneOf}
 use Rattle.image_laws.specs.Plans.EntryLists.{AssignEntries}

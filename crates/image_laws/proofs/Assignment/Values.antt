@@ -2,11 +2,11 @@
 use Rattle.std.proofs.Common.{◌⊎◌, inl, inr, ℕ, ◌+◌, ◌<◌, refl, sym, subst, arith}
 use Rattle.std.proofs.Common.{Bool, true, false, List, [], ◌∷◌, ◌++◌, length, append-nil}
 use Rattle.std.specs.Prelude.{if◌then◌else◌}
-use Rattle.flat_meaning.specs.declared.instruction.RightOperand.{RightOperand}
-use Rattle.flat_meaning.specs.declared.instruction.RightOperand.TheVariants.{Register, Number}
-use Rattle.flat_meaning.specs.declared.instruction.FlatInstruction.{FlatInstruction}
-use Rattle.flat_meaning.specs.declared.instruction.FlatInstruction.TheVariants.{Constant, Move}
-use Rattle.flat_meaning.specs.declared.function.FlatProgram.{FlatProgram}
+use Rattle.flat_code.specs.declared.instruction.RightOperand.{RightOperand}
+use Rattle.flat_code.specs.declared.instruction.RightOperand.TheVariants.{Register, Number}
+use Rattle.flat_code.specs.declared.instruction.FlatInstruction.{FlatInstruction}
+use Rattle.flat_code.specs.declared.instruction.FlatInstruction.TheVariants.{Constant, Move}
+use Rattle.flat_code.specs.declared.function.FlatProgram.{FlatProgram}
 use Rattle.flat_operators.specs.Operators.{constant_code}
 use Rattle.runtime_functions.specs.Library.{held_from}
 use Rattle.metadata_plan.specs.OperatorLists.Operators.{operators}
@@ -15,7 +15,8 @@ use Rattle.metadata_relation.specs.Blocks.{entry_constants_if, number_code, numb
 use Rattle.image_laws.specs.Plans.Assignment.{Registers, IsOneOf, Assigns, Names}
 use Rattle.image_laws.specs.Plans.Instructions.{entry_of, value_of}
 use Rattle.image_laws.proofs.Plans.Flow.{OfOperand}
-use Rattle.image_laws.proofs.Assignment.Flows.{Flows, followed, and_then, wider, LastIn, last_append, last_both, last_ends}
+use Rattle.image_laws.proofs.Assignment.Flows.{Flows, followed, and_then, wider, LastIn, last_append, last_both}
+use Rattle.image_laws.proofs.Assignment.Flows.{last_ends}
 use Rattle.image_laws.proofs.Assignment.Flows.{flow_assigns, flow_names}
 use Rattle.image_laws.proofs.Assignment.Straight.{AreIn, straight, nothing}
 use Rattle.image_laws.proofs.Assignment.Operators.{constant_gives, gives_flows, quiet_last}

@@ -6,14 +6,14 @@ use Rattle.addr_map.specs.Places.{MapSizes, code_size}
 use Rattle.words.specs.TwosComplement.{low_bits}
 use Rattle.machine_laws.specs.Calls.Table.{row_address}
 use Rattle.rv_isa.specs.declared.instruction.Instr.{Instr}
-use Rattle.flat_meaning.specs.declared.instruction.RightOperand.{RightOperand}
-use Rattle.flat_meaning.specs.declared.instruction.RightOperand.TheVariants as right
-use Rattle.flat_meaning.specs.declared.instruction.FlatInstruction.{FlatInstruction}
-use Rattle.flat_meaning.specs.declared.instruction.FlatInstruction.TheVariants as flat
-use Rattle.flat_meaning.specs.declared.function.FlatFunction.{FlatFunction}
-use Rattle.flat_meaning.specs.declared.function.FlatProgram.{FlatProgram}
-use Rattle.flat_meaning.specs.Calls.{function_in, record_bytes}
-use Rattle.flat_meaning.specs.Meaning.{parameters_of, results_of, body_of}
+use Rattle.flat_code.specs.declared.instruction.RightOperand.{RightOperand}
+use Rattle.flat_code.specs.declared.instruction.RightOperand.TheVariants as right
+use Rattle.flat_code.specs.declared.instruction.FlatInstruction.{FlatInstruction}
+use Rattle.flat_code.specs.declared.instruction.FlatInstruction.TheVariants as flat
+use Rattle.flat_code.specs.declared.function.FlatFunction.{FlatFunction}
+use Rattle.flat_code.specs.declared.function.FlatProgram.{FlatProgram}
+use Rattle.flat_code.specs.Calls.{function_in, record_bytes}
+use Rattle.flat_code.specs.Meaning.{parameters_of, results_of, body_of}
 use Rattle.reg_plan.specs.declared.plan.FunctionPlan.{FunctionPlan}
 use Rattle.reg_plan.specs.Tests.{AreAccepted}
 use Rattle.machine_laws.specs.Segments.Segments.{is_of, function_words, words_if, words_below, code_bytes}

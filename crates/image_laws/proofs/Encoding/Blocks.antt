@@ -1,5 +1,6 @@
 -- Blocks of an expansion are of instructions that the machine has.
-use Rattle.std.proofs.Common.{◌≡◌, inl, ℕ, zero, suc, ◌+◌, ◌*◌, ◌^◌, ◌<◌, ◌≤◌, sym, subst, arith, Bool, true, false, List, []}
+use Rattle.std.proofs.Common.{◌≡◌, inl, ℕ, zero, suc, ◌+◌, ◌*◌, ◌^◌, ◌<◌, ◌≤◌, sym, subst, arith, Bool, true, false}
+use Rattle.std.proofs.Common.{List, []}
 use Rattle.std.proofs.Common.{◌∷◌, ◌++◌, length, Option, Some, None, nat_lt}
 use Rattle.std.specs.Prelude.{◌==◌, if◌then◌else◌, slice_get}
 use Rattle.std.proofs.lemmas.Bool.{and_parts, ltb-true}
@@ -13,7 +14,8 @@ use Rattle.obj_memory.specs.declared.value.Scalar.TheVariants.{Integer, Pointer}
 use Rattle.c_tree.specs.declared.expression.Kind.{Kind}
 use Rattle.c_tree.specs.declared.expression.Kind.TheVariants.{Void, Scalar as OfScalar, Structure, Array}
 use Rattle.c_tree.specs.declared.expression.OffsetForm.{OffsetForm}
-use Rattle.c_tree.specs.declared.expression.OffsetForm.TheVariants.{PointerPlusIndex, IndexPlusPointer, PointerMinusIndex}
+use Rattle.c_tree.specs.declared.expression.OffsetForm.TheVariants.{PointerPlusIndex, IndexPlusPointer}
+use Rattle.c_tree.specs.declared.expression.OffsetForm.TheVariants.{PointerMinusIndex}
 use Rattle.c_tree.specs.declared.expression.Update.{Update}
 use Rattle.c_tree.specs.declared.expression.Fixity.{Fixity}
 use Rattle.c_tree.specs.declared.expression.Routine.{Routine}
@@ -34,12 +36,13 @@ use Rattle.tac_ir.specs.declared.instruction.Instruction.{Instruction}
 use Rattle.tac_ir.specs.declared.instruction.Instruction.TheVariants as tac
 use Rattle.tac_ir.specs.declared.function.CodeFunction.{CodeFunction}
 use Rattle.tac_ir.specs.Meaning.{function_in, objects_in, text_in}
-use Rattle.flat_meaning.specs.declared.instruction.FlatInstruction.TheVariants as flat
-use Rattle.flat_routines.specs.declared.registers.Held.{Held}
+use Rattle.flat_code.specs.declared.instruction.FlatInstruction.TheVariants as flat
+use Rattle.flat_code.specs.declared.registers.Held.{Held}
 use Rattle.flat_operators.specs.Operators.{constant_code, conversion_code, unary_code, binary_code}
 use Rattle.flat_operators.specs.Pointers.{difference_code}
 use Rattle.shadow_space.specs.Form.{EntryCode}
-use Rattle.lib_wrappers.specs.declared.accesses.held.HeldScalar.TheVariants.{Integer as HeldInteger, Pointer as HeldPointer}
+use Rattle.lib_wrappers.specs.declared.accesses.held.HeldScalar.TheVariants.{Integer as HeldInteger}
+use Rattle.lib_wrappers.specs.declared.accesses.held.HeldScalar.TheVariants.{Pointer as HeldPointer}
 use Rattle.lib_wrappers.specs.AccessRoutines.Accessing.{load_code as load_list, store_code}
 use Rattle.lib_wrappers.specs.PrintingRoutines.Formats.{byte_code}
 use Rattle.runtime_functions.specs.declared.library.LibraryFunction.{LibraryFunction}
@@ -53,20 +56,29 @@ use Rattle.metadata_relation.specs.InlineCode.{InlineCode}
 use Rattle.metadata_relation.specs.InlineLists.{inline_lists}
 use Rattle.metadata_relation.specs.Printing.{print_code, scan_statuses, string_register, scan_argument, scan_pieces}
 use Rattle.metadata_relation.specs.Printing.{put_argument, put_pieces}
-use Rattle.metadata_relation.specs.Registers.{temporary_register, variable_register, first_free, home_entry, home_register}
-use Rattle.metadata_relation.specs.Registers.{lock_register, top_register, moved_register, parameters_end, total, variable_words}
-use Rattle.metadata_relation.specs.Blocks.{Expansion, block, untagged, move_value, move_entry_if, get_code, set_code, conversion}
+use Rattle.metadata_relation.specs.Registers.{temporary_register, variable_register, first_free, home_entry}
+use Rattle.metadata_relation.specs.Registers.{home_register}
+use Rattle.metadata_relation.specs.Registers.{lock_register, top_register, moved_register, parameters_end, total}
+use Rattle.metadata_relation.specs.Registers.{variable_words}
+use Rattle.metadata_relation.specs.Blocks.{Expansion, block, untagged, move_value, move_entry_if, get_code, set_code}
+use Rattle.metadata_relation.specs.Blocks.{conversion}
 use Rattle.metadata_relation.specs.Blocks.{given_register, new_integer, new_address, update_plain_code, update_code}
 use Rattle.metadata_relation.specs.Blocks.{offset_code, narrow_code, number_code, number_operand, load_code, write_code}
-use Rattle.metadata_relation.specs.Blocks.{static_object, part_address, held_scalar, library_code, runtime_call, statuses_of}
-use Rattle.metadata_relation.specs.Blocks.{status_code, pack, objects_of_body, leave_code, enter_code, runtime_number, zeros}
+use Rattle.metadata_relation.specs.Blocks.{static_object, part_address, held_scalar, library_code, runtime_call}
+use Rattle.metadata_relation.specs.Blocks.{statuses_of}
+use Rattle.metadata_relation.specs.Blocks.{status_code, pack, objects_of_body, leave_code, enter_code, runtime_number}
+use Rattle.metadata_relation.specs.Blocks.{zeros}
 use Rattle.metadata_relation.specs.Blocks.{zero_variables, store_parameter, store_parameters, enter_body, prologue}
 use Rattle.metadata_relation.specs.Steps.{have_bytes}
 use Rattle.metadata_relation.specs.Structures.{copy_code}
-use Rattle.image_laws.specs.Encoding.Fitting.{AreFit, FitEntries, HasShortPlaces, HasWords, FitsFunction, FitsCode, moved_by}
-use Rattle.image_laws.proofs.Encoding.Parts.{fit_append, lifted, constant_fit, conversion_fit, short, untagged_fit, move_fit}
-use Rattle.image_laws.proofs.Encoding.Parts.{entry_fit, constants_fit, number_fit, operand_fit, offset_fit, difference_fit}
-use Rattle.image_laws.proofs.Encoding.Parts.{narrow_fit, load_fit, store_fit, new_integer_fit, new_address_fit, left_fit}
+use Rattle.image_laws.specs.Encoding.Fitting.{AreFit, FitEntries, HasShortPlaces, HasWords, FitsFunction, FitsCode}
+use Rattle.image_laws.specs.Encoding.Fitting.{moved_by}
+use Rattle.image_laws.proofs.Encoding.Parts.{fit_append, lifted, constant_fit, conversion_fit, short, untagged_fit}
+use Rattle.image_laws.proofs.Encoding.Parts.{move_fit}
+use Rattle.image_laws.proofs.Encoding.Parts.{entry_fit, constants_fit, number_fit, operand_fit, offset_fit}
+use Rattle.image_laws.proofs.Encoding.Parts.{difference_fit}
+use Rattle.image_laws.proofs.Encoding.Parts.{narrow_fit, load_fit, store_fit, new_integer_fit, new_address_fit}
+use Rattle.image_laws.proofs.Encoding.Parts.{left_fit}
 use Rattle.image_laws.proofs.Encoding.Parts.{status_fit, pack_fit, unpack_fit, fit_if, part_fit, bytes_fit, copy_fit}
 use Rattle.image_laws.proofs.Encoding.Checks.{judge_fits}
 use Rattle.image_laws.proofs.Encoding.Calls.{call_fits, through_fits, enter_fits}

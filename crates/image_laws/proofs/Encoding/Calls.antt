@@ -1,5 +1,6 @@
 -- What stands before calls, the blocks of calls, and blocks that are entered are of instructions that the machine has.
-use Rattle.std.proofs.Common.{◌≡◌, inl, ℕ, zero, suc, ◌+◌, ◌-◌, ◌*◌, ◌^◌, ◌<◌, ◌≤◌, arith, Bool, true, false, List, [], ◌∷◌}
+use Rattle.std.proofs.Common.{◌≡◌, inl, ℕ, zero, suc, ◌+◌, ◌-◌, ◌*◌, ◌^◌, ◌<◌, ◌≤◌, arith, Bool, true, false, List, []}
+use Rattle.std.proofs.Common.{◌∷◌}
 use Rattle.std.proofs.Common.{◌++◌, map, length, Option, Some, None}
 use Rattle.std.specs.Prelude.{◌==◌, if◌then◌else◌}
 use Rattle.addr_map.specs.Places.{MapSizes}
@@ -13,10 +14,10 @@ use Rattle.c_tree.specs.Kinds.{size_of_kind}
 use Rattle.source_meaning.specs.Blocks.{objects_end, has_objects}
 use Rattle.tac_ir.specs.declared.function.CodeFunction.{CodeFunction}
 use Rattle.tac_ir.specs.declared.function.Tac.{Tac}
-use Rattle.flat_meaning.specs.declared.instruction.RightOperand.TheVariants.{Register, Number}
-use Rattle.flat_meaning.specs.declared.instruction.FlatInstruction.{FlatInstruction}
-use Rattle.flat_meaning.specs.declared.instruction.FlatInstruction.TheVariants as flat
-use Rattle.flat_routines.specs.declared.registers.Entry.{Entry}
+use Rattle.flat_code.specs.declared.instruction.RightOperand.TheVariants.{Register, Number}
+use Rattle.flat_code.specs.declared.instruction.FlatInstruction.{FlatInstruction}
+use Rattle.flat_code.specs.declared.instruction.FlatInstruction.TheVariants as flat
+use Rattle.flat_code.specs.declared.registers.Entry.{Entry}
 use Rattle.flat_operators.specs.Operators.{constant_code, wide_code}
 use Rattle.lib_wrappers.specs.AllocatingRoutines.Allocating.{keys_code, key_test}
 use Rattle.lib_wrappers.specs.AllocatingRoutines.Entering.{block_bytes}
@@ -26,9 +27,12 @@ use Rattle.metadata_plan.specs.OperatorLists.Operators.{operators}
 use Rattle.metadata_relation.specs.FunctionTypes.{first_of_type}
 use Rattle.metadata_relation.specs.Registers.{passed_as, temporary_register, moved_register, first_free, home_entry}
 use Rattle.metadata_relation.specs.Registers.{top_register, parameters_end, area_words, result_words}
-use Rattle.metadata_relation.specs.Blocks.{number_code, number_operand, space_test, object_tests, objects_of_body, result_of}
-use Rattle.metadata_relation.specs.Blocks.{result_entry, pack, call_code, call_of, callee_tests, room_tests, units_tests}
-use Rattle.metadata_relation.specs.Blocks.{unknown_object_tests, through_code, through_of, place_home, place_homes, enter_code}
+use Rattle.metadata_relation.specs.Blocks.{number_code, number_operand, space_test, object_tests, objects_of_body}
+use Rattle.metadata_relation.specs.Blocks.{result_of}
+use Rattle.metadata_relation.specs.Blocks.{result_entry, pack, call_code, call_of, callee_tests, room_tests}
+use Rattle.metadata_relation.specs.Blocks.{units_tests}
+use Rattle.metadata_relation.specs.Blocks.{unknown_object_tests, through_code, through_of, place_home, place_homes}
+use Rattle.metadata_relation.specs.Blocks.{enter_code}
 use Rattle.metadata_relation.specs.Blocks.{write_top, status_code, enter_statuses}
 use Rattle.image_laws.specs.Encoding.Fitting.{AreFit, HasShortPlaces}
 use Rattle.image_laws.proofs.Encoding.Parts.{fit_append, fit_if, short, wide_fit, constant_fit, number_fit, operand_fit}

@@ -14,15 +14,16 @@ use Rattle.tac_ir.specs.declared.key.Base.TheVariants.{Plain, Automatic, Static}
 use Rattle.tac_ir.specs.declared.key.Member.{Member}
 use Rattle.tac_ir.specs.declared.key.Key.{Key}
 use Rattle.tac_ir.specs.declared.function.CodeFunction.{CodeFunction}
-use Rattle.flat_meaning.specs.declared.instruction.RightOperand.TheVariants.{Register}
-use Rattle.flat_meaning.specs.declared.instruction.FlatInstruction.{FlatInstruction}
-use Rattle.flat_meaning.specs.declared.instruction.FlatInstruction.TheVariants as flat
+use Rattle.flat_code.specs.declared.instruction.RightOperand.TheVariants.{Register}
+use Rattle.flat_code.specs.declared.instruction.FlatInstruction.{FlatInstruction}
+use Rattle.flat_code.specs.declared.instruction.FlatInstruction.TheVariants as flat
 use Rattle.shadow_space.specs.Form.{EntryCode}
 use Rattle.metadata_plan.specs.Entries.{is_name, is_fixed, is_unscaled, has_fixed_path, can_compare}
 use Rattle.metadata_plan.specs.OperatorLists.Operators.{operators}
 use Rattle.metadata_relation.specs.InlineCode.{InlineCode}
 use Rattle.metadata_relation.specs.InlineLists.{inline_lists}
-use Rattle.metadata_relation.specs.Blocks.{Expansion, number_code, number_operand, check_code, Range, path_range, named_size}
+use Rattle.metadata_relation.specs.Blocks.{Expansion, number_code, number_operand, check_code, Range, path_range}
+use Rattle.metadata_relation.specs.Blocks.{named_size}
 use Rattle.metadata_relation.specs.Blocks.{named_address, range_code, compare_code, judge_code, static_object}
 use Rattle.image_laws.specs.Encoding.Fitting.{AreFit, FitsFunction, FitsCode}
 use Rattle.image_laws.proofs.Encoding.Parts.{fit_append, number_fit, operand_fit, constant_fit, part_fit}

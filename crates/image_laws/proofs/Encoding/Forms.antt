@@ -5,10 +5,10 @@ use Rattle.addr_map.specs.declared.region.Region.TheVariants.{Stack, Locks, Free
 use Rattle.addr_map.specs.Places.{MapSizes, AreMapped, object_space, region_end, spaces_begin, objects_begin}
 use Rattle.rv_isa.specs.declared.instruction.RegOp.TheVariants.{Add}
 use Rattle.rv_isa.specs.declared.instruction.BranchOp.TheVariants.{Beq, Bne}
-use Rattle.flat_meaning.specs.declared.instruction.RightOperand.TheVariants.{Register, Number}
-use Rattle.flat_meaning.specs.declared.instruction.FlatInstruction.TheVariants.{Constant, Operate, Branch}
-use Rattle.flat_routines.specs.declared.registers.Entry.{Entry}
-use Rattle.flat_routines.specs.Routine.{unless_code}
+use Rattle.flat_code.specs.declared.instruction.RightOperand.TheVariants.{Register, Number}
+use Rattle.flat_code.specs.declared.instruction.FlatInstruction.TheVariants.{Constant, Operate, Branch}
+use Rattle.flat_code.specs.declared.registers.Entry.{Entry}
+use Rattle.flat_code.specs.Routines.Routine.{unless_code}
 use Rattle.shadow_space.specs.Direct.{direct_read, direct_write, load_entry, store_entry}
 use Rattle.shadow_space.specs.TwoLevel.Code.{look_up, take_table, two_level_read_behind, two_level_write_behind}
 use Rattle.shadow_space.specs.TwoLevel.Tables.{first_table}

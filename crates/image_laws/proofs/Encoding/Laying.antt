@@ -6,8 +6,8 @@ use Rattle.std.proofs.lemmas.Option.{same_Some, none-some}
 use Rattle.tac_ir.specs.declared.instruction.Instruction.{Instruction}
 use Rattle.tac_ir.specs.declared.function.CodeFunction.{CodeFunction}
 use Rattle.tac_ir.specs.Edges.{successors}
-use Rattle.flat_meaning.specs.declared.instruction.FlatInstruction.{FlatInstruction}
-use Rattle.flat_meaning.specs.declared.instruction.FlatInstruction.TheVariants as flat
+use Rattle.flat_code.specs.declared.instruction.FlatInstruction.{FlatInstruction}
+use Rattle.flat_code.specs.declared.instruction.FlatInstruction.TheVariants as flat
 use Rattle.metadata_plan.specs.Laid.{jump, jumps, jump_unless, falls, place_of, laid_from, begin_code, body_of}
 use Rattle.image_laws.specs.Encoding.Fitting.{IsFit, AreFit}
 use Rattle.image_laws.proofs.Encoding.Parts.{fit_append, fit_if}

@@ -11,18 +11,19 @@ use Rattle.c_tree.specs.declared.expression.Update.TheVariants.{Arithmetic, Forw
 use Rattle.tac_ir.specs.declared.instruction.RightOperand.{RightOperand as Right}
 use Rattle.tac_ir.specs.declared.instruction.RightOperand.TheVariants.{Temporary, One}
 use Rattle.tac_ir.specs.declared.function.CodeFunction.{CodeFunction}
-use Rattle.flat_meaning.specs.declared.instruction.RightOperand.{RightOperand}
-use Rattle.flat_meaning.specs.declared.instruction.RightOperand.TheVariants.{Register, Number}
-use Rattle.flat_meaning.specs.declared.instruction.FlatInstruction.{FlatInstruction}
-use Rattle.flat_meaning.specs.declared.instruction.FlatInstruction.TheVariants as flat
-use Rattle.flat_routines.specs.declared.registers.Held.{Held}
-use Rattle.flat_routines.specs.declared.registers.Entry.{Entry}
+use Rattle.flat_code.specs.declared.instruction.RightOperand.{RightOperand}
+use Rattle.flat_code.specs.declared.instruction.RightOperand.TheVariants.{Register, Number}
+use Rattle.flat_code.specs.declared.instruction.FlatInstruction.{FlatInstruction}
+use Rattle.flat_code.specs.declared.instruction.FlatInstruction.TheVariants as flat
+use Rattle.flat_code.specs.declared.registers.Held.{Held}
+use Rattle.flat_code.specs.declared.registers.Entry.{Entry}
 use Rattle.flat_operators.specs.Operators.{constant_code, conversion_code, binary_code, wide_code}
 use Rattle.flat_operators.specs.Pointers.{shift_of, scaled_by, offset_code, difference_code}
 use Rattle.flat_actions.specs.Narrowing.{narrow_code}
 use Rattle.shadow_space.specs.Form.{EntryCode}
 use Rattle.lib_wrappers.specs.declared.accesses.held.HeldScalar.{HeldScalar}
-use Rattle.lib_wrappers.specs.declared.accesses.held.HeldScalar.TheVariants.{Integer as HeldInteger, Pointer as HeldPointer}
+use Rattle.lib_wrappers.specs.declared.accesses.held.HeldScalar.TheVariants.{Integer as HeldInteger}
+use Rattle.lib_wrappers.specs.declared.accesses.held.HeldScalar.TheVariants.{Pointer as HeldPointer}
 use Rattle.lib_wrappers.specs.AccessRoutines.Accessing.{load_code, store_code}
 use Rattle.lib_wrappers.specs.AllocatingRoutines.Entering.{leave_code as leave_list}
 use Rattle.runtime_functions.specs.declared.status.ReturnStatus.{ReturnStatus}
@@ -30,7 +31,8 @@ use Rattle.runtime_functions.specs.declared.status.ReturnStatus.TheVariants.{Com
 use Rattle.runtime_functions.specs.Library.{Passed, NoValue, OneWord, WithEntry}
 use Rattle.metadata_plan.specs.OperatorLists.Operators.{operators}
 use Rattle.metadata_relation.specs.InlineLists.{inline_lists}
-use Rattle.metadata_relation.specs.Blocks.{untagged, move_value, move_entry_if, entry_constants_if, number_code, number_operand}
+use Rattle.metadata_relation.specs.Blocks.{untagged, move_value, move_entry_if, entry_constants_if, number_code}
+use Rattle.metadata_relation.specs.Blocks.{number_operand}
 use Rattle.metadata_relation.specs.Blocks.{is_short, right_code, right_register, new_integer, new_address, write_top}
 use Rattle.metadata_relation.specs.Blocks.{status_tests, status_code, pack, unpack, part_address, store_bytes}
 use Rattle.metadata_relation.specs.Structures.{copy_code}

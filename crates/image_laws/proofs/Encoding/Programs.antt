@@ -9,23 +9,25 @@ use Rattle.c_tree.specs.declared.expression.Kind.TheVariants.{Void, Scalar as Of
 use Rattle.c_tree.specs.declared.program.Variable.{Variable}
 use Rattle.tac_ir.specs.declared.function.CodeFunction.{CodeFunction}
 use Rattle.tac_ir.specs.Meaning.{function_in}
-use Rattle.flat_meaning.specs.declared.instruction.FlatInstruction.{FlatInstruction}
-use Rattle.flat_meaning.specs.declared.instruction.FlatInstruction.TheVariants as flat
-use Rattle.flat_meaning.specs.declared.function.FlatFunction.{FlatFunction}
-use Rattle.flat_meaning.specs.declared.function.FlatProgram.{FlatProgram}
-use Rattle.flat_meaning.specs.Calls.{function_in as flat_function, room_if}
-use Rattle.flat_meaning.specs.Meaning.{body_of as body_in, instruction_at}
+use Rattle.flat_code.specs.declared.instruction.FlatInstruction.{FlatInstruction}
+use Rattle.flat_code.specs.declared.instruction.FlatInstruction.TheVariants as flat
+use Rattle.flat_code.specs.declared.function.FlatFunction.{FlatFunction}
+use Rattle.flat_code.specs.declared.function.FlatProgram.{FlatProgram}
+use Rattle.flat_code.specs.Calls.{function_in as flat_function, room_if}
+use Rattle.flat_code.specs.Meaning.{body_of as body_in, instruction_at}
 use Rattle.shadow_space.specs.Form.{EntryCode}
 use Rattle.machine_laws.specs.Following.Code.{IsEncodable}
 use Rattle.machine_laws.specs.Following.Start.{IsStartable}
 use Rattle.runtime_functions.specs.Library.{register_count}
 use Rattle.metadata_relation.specs.InlineLists.{inline_lists}
-use Rattle.metadata_relation.specs.Registers.{passed_as, parameter_words, total, parameters_end, area_words, result_words}
+use Rattle.metadata_relation.specs.Registers.{passed_as, parameter_words, total, parameters_end, area_words}
+use Rattle.metadata_relation.specs.Registers.{result_words}
 use Rattle.metadata_relation.specs.Blocks.{Expansion, block, prologue, result_of, start_code, main_tests, before_main}
 use Rattle.metadata_relation.specs.Blocks.{entry_code, objects_of_body}
 use Rattle.metadata_relation.specs.Laid.{function_of, entry_of, program_of}
 use Rattle.metadata_plan.specs.Blocks.{call_tests}
-use Rattle.image_laws.specs.Encoding.Fitting.{IsFit, AreFit, FitEntries, HasShortPlaces, FitsFunction, FitsCode, HasRooms}
+use Rattle.image_laws.specs.Encoding.Fitting.{IsFit, AreFit, FitEntries, HasShortPlaces, FitsFunction, FitsCode}
+use Rattle.image_laws.specs.Encoding.Fitting.{HasRooms}
 use Rattle.image_laws.proofs.Plans.Expansions.{of_each, entry_last}
 use Rattle.image_laws.proofs.Encoding.Parts.{fit_append, short}
 use Rattle.image_laws.proofs.Encoding.Calls.{tests_fit, objects_fit}

@@ -4,10 +4,10 @@ use Rattle.std.specs.Prelude.{slice_get}
 use Rattle.c_tree.specs.Programs.{Program}
 use Rattle.c_tree.specs.ValidProgram.{is_valid_program}
 use Rattle.tac_ir.specs.declared.function.CodeFunction.{CodeFunction}
-use Rattle.flat_meaning.specs.declared.function.FlatFunction.{FlatFunction}
-use Rattle.flat_meaning.specs.declared.function.FlatProgram.{FlatProgram}
-use Rattle.flat_meaning.specs.Memory.{Bytes}
-use Rattle.flat_routines.specs.Metadata.{View}
+use Rattle.flat_code.specs.declared.function.FlatFunction.{FlatFunction}
+use Rattle.flat_code.specs.declared.function.FlatProgram.{FlatProgram}
+use Rattle.flat_code.specs.Memory.{Bytes}
+use Rattle.flat_code.specs.Routines.Metadata.{View}
 use Rattle.shadow_space.specs.Form.{EntryCode}
 use Rattle.metadata_relation.specs.Expanded.{IsExpanded}
 use Rattle.metadata_relation.specs.Homes.{HasRoom, homes, register_count}

@@ -1,5 +1,6 @@
 -- Laid expansions of checked code can be planned.
-use Rattle.std.proofs.Common.{◌≡◌, ℕ, ◌+◌, ◌*◌, ◌<◌, ◌≤◌, ◌==◌, true, ◌&&◌, List, [], ◌∷◌, length, Option, Some, None, refl}
+use Rattle.std.proofs.Common.{◌≡◌, ℕ, ◌+◌, ◌*◌, ◌<◌, ◌≤◌, ◌==◌, true, ◌&&◌, List, [], ◌∷◌, length, Option, Some, None}
+use Rattle.std.proofs.Common.{refl}
 use Rattle.std.proofs.Common.{◌∙◌, arith}
 use Rattle.std.specs.Prelude.{slice_get}
 use Rattle.std.proofs.lemmas.Bool.{eqb-true, and_parts, false≢true}
@@ -12,11 +13,11 @@ use Rattle.c_tree.specs.ValidProgram.{is_valid_program}
 use Rattle.tac_ir.specs.declared.function.CodeFunction.{CodeFunction}
 use Rattle.tac_ir.specs.declared.function.Tac.{Tac}
 use Rattle.tac_ir.specs.Meaning.{function_in as code_in}
-use Rattle.flat_meaning.specs.declared.function.FlatFunction.{FlatFunction}
-use Rattle.flat_meaning.specs.Calls.{function_in}
-use Rattle.flat_meaning.specs.Meaning.{parameters_of, results_of}
-use Rattle.flat_meaning.specs.Memory.{Bytes}
-use Rattle.flat_routines.specs.Metadata.{View}
+use Rattle.flat_code.specs.declared.function.FlatFunction.{FlatFunction}
+use Rattle.flat_code.specs.Calls.{function_in}
+use Rattle.flat_code.specs.Meaning.{parameters_of, results_of}
+use Rattle.flat_code.specs.Memory.{Bytes}
+use Rattle.flat_code.specs.Routines.Metadata.{View}
 use Rattle.shadow_space.specs.Form.{EntryCode}
 use Rattle.metadata_relation.specs.Expanded.{IsExpanded}
 use Rattle.metadata_relation.specs.Homes.{HasRoom, homes, register_count}
@@ -24,7 +25,8 @@ use Rattle.metadata_relation.specs.Blocks.{Expansion, objects_of_body, result_of
 use Rattle.metadata_relation.specs.Laid.{function_of, program_of, layout_of}
 use Rattle.metadata_relation.specs.Registers.{total, parameter_words, parameters_end, area_words, result_words}
 use Rattle.metadata_relation.specs.Stages.{Compiled}
-use Rattle.metadata_relation.specs.Steps.{AreAllCovered, is_no_aggregate, is_scalar_call, is_scalar_main, can_enter_body}
+use Rattle.metadata_relation.specs.Steps.{AreAllCovered, is_no_aggregate, is_scalar_call, is_scalar_main}
+use Rattle.metadata_relation.specs.Steps.{can_enter_body}
 use Rattle.metadata_relation.specs.Steps.{are_scalars}
 use Rattle.reg_plan.specs.Planned.{ArePlannable}
 use Rattle.image_laws.specs.Images.Images.{IsChecked}

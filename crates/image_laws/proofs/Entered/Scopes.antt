@@ -1,5 +1,6 @@
 -- The homes of the objects that a scope names, and of those of a block.
-use Rattle.std.proofs.Common.{◌≡◌, ◌⊎◌, inl, inr, ⊎_elim, ℕ, zero, suc, ◌+◌, Bool, true, false, ◌||◌, ◌==◌, List, [], ◌∷◌, ◌++◌}
+use Rattle.std.proofs.Common.{◌≡◌, ◌⊎◌, inl, inr, ⊎_elim, ℕ, zero, suc, ◌+◌, Bool, true, false, ◌||◌, ◌==◌, List, []}
+use Rattle.std.proofs.Common.{◌∷◌, ◌++◌}
 use Rattle.std.proofs.Common.{map, Option, Some, None, refl, sym, ap, ◌∙◌, subst, arith}
 use Rattle.std.specs.Prelude.{if◌then◌else◌, slice_get}
 use Rattle.std.proofs.lemmas.Bool.{or_left, or_right, or_cases, false≢true}
@@ -11,7 +12,7 @@ use Rattle.c_tree.specs.Valid.{Scope, within}
 use Rattle.source_meaning.specs.Blocks.{has_objects}
 use Rattle.source_meaning.specs.Good.{object_kind}
 use Rattle.tac_ir.specs.declared.function.CodeFunction.{CodeFunction}
-use Rattle.flat_routines.specs.Metadata.{entry_registers}
+use Rattle.flat_code.specs.Routines.Metadata.{entry_registers}
 use Rattle.metadata_plan.specs.Registers.{all_variables}
 use Rattle.metadata_relation.specs.Registers.{home_entry, first_object, lock_register, top_register}
 use Rattle.image_laws.specs.Plans.Assignment.{Registers, IsOneOf}

@@ -1,5 +1,6 @@
 -- The code of statements needs the homes alone of objects that are named where it stands, whose blocks were entered.
-use Rattle.std.proofs.Common.{◌≡◌, ◌⊎◌, inl, inr, ⊎_elim, ℕ, zero, suc, Bool, true, false, ◌||◌, List, [], ◌∷◌, Option, Some}
+use Rattle.std.proofs.Common.{◌≡◌, ◌⊎◌, inl, inr, ⊎_elim, ℕ, zero, suc, Bool, true, false, ◌||◌, List, [], ◌∷◌, Option}
+use Rattle.std.proofs.Common.{Some}
 use Rattle.std.proofs.Common.{None, refl, sym, ap, ◌∙◌, subst}
 use Rattle.std.specs.Prelude.{slice_get}
 use Rattle.std.specs.List.{list_all}
@@ -17,8 +18,10 @@ use Rattle.c_tree.specs.Statements.{statements, SwitchItems, no_items, items}
 use Rattle.c_tree.specs.Blocks.{block_objects, block_variables, switch_variables, first_variables}
 use Rattle.c_tree.specs.Kinds.{is_promoted, is_scalar, size_of_kind}
 use Rattle.c_tree.specs.Valid.{Scope, variable_at, within, is_valid, is_condition, is_plain}
-use Rattle.c_tree.specs.ValidProgram.{Inside, in_loop as loop_inside, in_switch as switch_inside, is_statement, is_content}
-use Rattle.c_tree.specs.ValidProgram.{is_part, are_parts, are_statements, are_items, is_initializer, are_declared, is_first}
+use Rattle.c_tree.specs.ValidProgram.{Inside, in_loop as loop_inside, in_switch as switch_inside, is_statement}
+use Rattle.c_tree.specs.ValidProgram.{is_content}
+use Rattle.c_tree.specs.ValidProgram.{is_part, are_parts, are_statements, are_items, is_initializer, are_declared}
+use Rattle.c_tree.specs.ValidProgram.{is_first}
 use Rattle.c_tree.specs.ValidProgram.{is_condition_if, is_expression_if, is_label, labels_of}
 use Rattle.source_meaning.specs.Blocks.{has_objects}
 use Rattle.source_meaning.specs.Good.{object_kind}
@@ -26,7 +29,7 @@ use Rattle.source_meaning.proofs.ValidNames.{both, three, five}
 use Rattle.tac_ir.specs.declared.instruction.Instruction.TheVariants as tac
 use Rattle.tac_ir.specs.declared.function.CodeFunction.{CodeFunction}
 use Rattle.tac_ir.specs.Meaning.{if_there, objects_in}
-use Rattle.flat_routines.specs.Metadata.{entry_registers}
+use Rattle.flat_code.specs.Routines.Metadata.{entry_registers}
 use Rattle.metadata_plan.specs.Registers.{all_variables}
 use Rattle.metadata_relation.specs.Registers.{home_entry}
 use Rattle.c_lower.specs.Placed.{Placed, Holds, HasAt}
@@ -38,7 +41,8 @@ use Rattle.c_lower.proofs.KeyNames.{object_found}
 use Rattle.image_laws.specs.Plans.Assignment.{Registers, IsOneOf}
 use Rattle.image_laws.specs.Plans.Instructions.{entered_registers, left_registers, entered_by}
 use Rattle.image_laws.proofs.Entered.Along as steps
-use Rattle.image_laws.proofs.Entered.Scopes.{IsScoped, scoped_within, scoped_more, some_object, home_entered, left_entered}
+use Rattle.image_laws.proofs.Entered.Scopes.{IsScoped, scoped_within, scoped_more, some_object, home_entered}
+use Rattle.image_laws.proofs.Entered.Scopes.{left_entered}
 use Rattle.image_laws.proofs.Entered.Values.{needed, AlongAt, goes, parts, of_expression, of_argument}
 
 module _ (c : CodeFunction) (l : Placed) (keys : l.keys ≡ c.keys) (blocks : l.blocks ≡ c.blocks)

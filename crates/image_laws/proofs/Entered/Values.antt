@@ -20,7 +20,7 @@ use Rattle.tac_ir.specs.declared.key.Base.TheVariants.{Plain, Automatic, Static}
 use Rattle.tac_ir.specs.declared.key.Key.{Key}
 use Rattle.tac_ir.specs.declared.function.CodeFunction.{CodeFunction}
 use Rattle.tac_ir.specs.Edges.{LeadsTo}
-use Rattle.flat_routines.specs.Metadata.{entry_registers}
+use Rattle.flat_code.specs.Routines.Metadata.{entry_registers}
 use Rattle.metadata_plan.specs.Entries.{key_in, can_compare}
 use Rattle.metadata_relation.specs.Registers.{home_entry}
 use Rattle.c_lower.specs.Placed.{Placed}

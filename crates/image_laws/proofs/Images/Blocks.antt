@@ -24,7 +24,7 @@ use Rattle.tac_ir.specs.declared.instruction.Instruction.TheVariants as tac
 use Rattle.tac_ir.specs.declared.function.CodeFunction.{CodeFunction}
 use Rattle.tac_ir.specs.declared.function.Tac.{Tac}
 use Rattle.tac_ir.specs.Meaning.{function_in}
-use Rattle.flat_meaning.specs.declared.instruction.FlatInstruction.TheVariants as flat
+use Rattle.flat_code.specs.declared.instruction.FlatInstruction.TheVariants as flat
 use Rattle.metadata_plan.specs.Registers.{words_of, first_free, variable_register, temporary_register}
 use Rattle.metadata_plan.specs.Part.{takes}
 use Rattle.metadata_plan.specs.Blocks.{conversion, right_code, right_register, kept_by, update_code, library_code}

@@ -22,14 +22,14 @@ use Rattle.tac_ir.specs.declared.function.Tac.{Tac}
 use Rattle.tac_ir.specs.Meaning.{header_of_code, setting_of_code, objects_before, placed_data, tac_meaning, first_stage}
 use Rattle.tac_ir.specs.Meaning.{step}
 use Rattle.tac_ir.specs.Stage.{Stuck}
-use Rattle.flat_meaning.specs.declared.function.FlatFunction.{FlatFunction}
-use Rattle.flat_meaning.specs.declared.function.FlatProgram.{FlatProgram}
-use Rattle.flat_meaning.specs.Memory.{Bytes, AreBytes, store}
-use Rattle.flat_meaning.specs.State as flat
-use Rattle.flat_meaning.specs.Meaning.{step as flat_step, started, flat_meaning}
-use Rattle.flat_routines.specs.Metadata.{View, KeepsShadow, IsObjectWord}
-use Rattle.flat_routines.specs.Objects.StandsFor.{StandsFor, global_lock}
-use Rattle.flat_routines.specs.Objects.Start.{start_keys}
+use Rattle.flat_code.specs.declared.function.FlatFunction.{FlatFunction}
+use Rattle.flat_code.specs.declared.function.FlatProgram.{FlatProgram}
+use Rattle.flat_code.specs.Memory.{Bytes, AreBytes, store}
+use Rattle.flat_code.specs.State as flat
+use Rattle.flat_code.specs.Meaning.{step as flat_step, started, flat_meaning}
+use Rattle.flat_code.specs.Routines.Metadata.{View, KeepsShadow, IsObjectWord}
+use Rattle.flat_code.specs.Routines.Objects.StandsFor.{StandsFor, global_lock}
+use Rattle.flat_code.specs.Routines.Objects.Start.{start_keys}
 use Rattle.flat_actions.specs.Actions.{AreSpacesGood}
 use Rattle.shadow_space.specs.Form.{EntryCode}
 use Rattle.runtime_functions.specs.Runtime.{runtime_list, AreOfRuntime}

@@ -8,12 +8,12 @@ use Rattle.c_tree.specs.Programs.{Program}
 use Rattle.source_meaning.specs.Places.{statics_first}
 use Rattle.tac_ir.specs.declared.function.Tac.{Tac}
 use Rattle.tac_ir.specs.Meaning.{setting_of_code, objects_before, tac_meaning}
-use Rattle.flat_meaning.specs.declared.instruction.FlatInstruction.{FlatInstruction}
-use Rattle.flat_meaning.specs.declared.function.FlatProgram.{FlatProgram}
-use Rattle.flat_meaning.specs.Memory.{Bytes}
-use Rattle.flat_meaning.specs.State.{Stage, Stuck, seen}
-use Rattle.flat_meaning.specs.Meaning.{step, started, flat_meaning, instruction_at}
-use Rattle.flat_routines.specs.Objects.Start.{IsStart}
+use Rattle.flat_code.specs.declared.instruction.FlatInstruction.{FlatInstruction}
+use Rattle.flat_code.specs.declared.function.FlatProgram.{FlatProgram}
+use Rattle.flat_code.specs.Memory.{Bytes}
+use Rattle.flat_code.specs.State.{Stage, Stuck, seen}
+use Rattle.flat_code.specs.Meaning.{step, started, flat_meaning, instruction_at}
+use Rattle.flat_code.specs.Routines.Objects.Start.{IsStart}
 use Rattle.metadata_plan.specs.Operators.{AreOperators}
 use Rattle.metadata_plan.specs.Part.{IsIntegerCode}
 use Rattle.metadata_plan.specs.Laid.{address_of, program_of}

@@ -19,11 +19,11 @@ use Rattle.metadata_plan.specs.Laid.{program_of}
 use Rattle.metadata_plan.specs.OperatorLists.Operators.{operators}
 use Rattle.metadata_expansion.specs.Homes.{homes}
 use Rattle.metadata_expansion.specs.Numbers.{AreAllSmall}
-use Rattle.flat_meaning.specs.declared.instruction.FlatInstruction.{FlatInstruction}
-use Rattle.flat_meaning.specs.declared.function.FlatProgram.{FlatProgram}
-use Rattle.flat_meaning.specs.Memory.{Bytes, AreBytes}
-use Rattle.flat_meaning.specs.State.{Stage, Stuck, seen}
-use Rattle.flat_meaning.specs.Meaning.{step, started, flat_meaning, instruction_at}
+use Rattle.flat_code.specs.declared.instruction.FlatInstruction.{FlatInstruction}
+use Rattle.flat_code.specs.declared.function.FlatProgram.{FlatProgram}
+use Rattle.flat_code.specs.Memory.{Bytes, AreBytes}
+use Rattle.flat_code.specs.State.{Stage, Stuck, seen}
+use Rattle.flat_code.specs.Meaning.{step, started, flat_meaning, instruction_at}
 use Rattle.reg_plan.specs.declared.plan.FunctionPlan.{FunctionPlan}
 use Rattle.reg_plan.specs.Tests.{AreAccepted}
 use Rattle.rv_sim.specs.State.{MachineState}

@@ -7,10 +7,10 @@ use Rattle.sb_base.specs.Budgets.{BudgetSizes}
 use Rattle.addr_map.specs.Places.{MapSizes}
 use Rattle.c_tree.specs.Programs.{Program}
 use Rattle.source_meaning.specs.Meaning.{meaning}
-use Rattle.flat_meaning.specs.declared.function.FlatProgram.{FlatProgram}
-use Rattle.flat_meaning.specs.Memory.{Bytes, AreBytes}
-use Rattle.flat_meaning.specs.State.{Stuck}
-use Rattle.flat_meaning.specs.Meaning.{step, started, flat_meaning}
+use Rattle.flat_code.specs.declared.function.FlatProgram.{FlatProgram}
+use Rattle.flat_code.specs.Memory.{Bytes, AreBytes}
+use Rattle.flat_code.specs.State.{Stuck}
+use Rattle.flat_code.specs.Meaning.{step, started, flat_meaning}
 use Rattle.flat_propagation.specs.Propagated.{propagated}
 use Rattle.reg_plan.specs.declared.plan.FunctionPlan.{FunctionPlan}
 use Rattle.reg_plan.specs.Tests.{AreAccepted}

@@ -5,16 +5,16 @@ use Rattle.std.specs.Prelude.{if◌then◌else◌, slice_get}
 use Rattle.behaviours.specs.Behaviour.{Behaviour, Meets, Follows}
 use Rattle.behaviours.specs.Steps.{run}
 use Rattle.addr_map.specs.Places.{MapSizes}
-use Rattle.flat_meaning.specs.declared.instruction.FlatInstruction.{FlatInstruction}
-use Rattle.flat_meaning.specs.declared.instruction.FlatInstruction.TheVariants as flat
-use Rattle.flat_meaning.specs.declared.function.FlatFunction.{FlatFunction}
-use Rattle.flat_meaning.specs.declared.function.FlatProgram.{FlatProgram}
-use Rattle.flat_meaning.specs.Memory.{Bytes}
-use Rattle.flat_meaning.specs.State.{State, Frame, Stage, Stands, Over, Stuck, seen}
-use Rattle.flat_meaning.specs.Calls.{function_in}
-use Rattle.flat_meaning.specs.Meaning.{Context, Local, Goes, Ends, Leaves, Fails, local, received, context, cost}
-use Rattle.flat_meaning.specs.Meaning.{has_room, enters, parameters_of, results_of, returns, waiting, leaves, goes_to}
-use Rattle.flat_meaning.specs.Meaning.{at_instruction, instruction_at, step, started, flat_meaning}
+use Rattle.flat_code.specs.declared.instruction.FlatInstruction.{FlatInstruction}
+use Rattle.flat_code.specs.declared.instruction.FlatInstruction.TheVariants as flat
+use Rattle.flat_code.specs.declared.function.FlatFunction.{FlatFunction}
+use Rattle.flat_code.specs.declared.function.FlatProgram.{FlatProgram}
+use Rattle.flat_code.specs.Memory.{Bytes}
+use Rattle.flat_code.specs.State.{State, Frame, Stage, Stands, Over, Stuck, seen}
+use Rattle.flat_code.specs.Calls.{function_in}
+use Rattle.flat_code.specs.Meaning.{Context, Local, Goes, Ends, Leaves, Fails, local, received, context, cost}
+use Rattle.flat_code.specs.Meaning.{has_room, enters, parameters_of, results_of, returns, waiting, leaves, goes_to}
+use Rattle.flat_code.specs.Meaning.{at_instruction, instruction_at, step, started, flat_meaning}
 use Rattle.image_laws.proofs.Images.Instructions.{IsFit}
 
 -- with another memory

@@ -7,11 +7,11 @@ use Rattle.addr_map.specs.Places.{MapSizes, AreMapped}
 use Rattle.addr_map.proofs.Order.{starts_whole}
 use Rattle.tac_ir.specs.declared.function.StaticData.{StaticData}
 use Rattle.tac_ir.specs.Meaning.{placed_data}
-use Rattle.flat_meaning.specs.Memory.{Bytes, AreBytes, load, store}
-use Rattle.flat_meaning.proofs.Stored.{load_stored, load_beside, store_keeps_bytes}
-use Rattle.flat_routines.specs.Metadata.{no_metadata}
-use Rattle.flat_routines.specs.Objects.StandsFor.{Views, IsLock, global_lock}
-use Rattle.flat_routines.specs.Objects.Start.{IsStart}
+use Rattle.flat_code.specs.Memory.{Bytes, AreBytes, load, store}
+use Rattle.flat_code.proofs.Stored.{load_stored, load_beside, store_keeps_bytes}
+use Rattle.flat_code.specs.Routines.Metadata.{no_metadata}
+use Rattle.flat_code.specs.Routines.Objects.StandsFor.{Views, IsLock, global_lock}
+use Rattle.flat_code.specs.Routines.Objects.Start.{IsStart}
 use Rattle.metadata_plan.specs.Part.{has_no_statics}
 
 -- no keys were made, and no block is live, whatever the memory holds

@@ -8,7 +8,7 @@ use Rattle.std.proofs.lemmas.Option.{same_Some, none-some}
 use Rattle.addr_map.specs.Places.{MapSizes}
 use Rattle.sb_base.specs.declared.ending.Ending.TheVariants.{Abort as AbortAt}
 use Rattle.rv_isa.specs.declared.instruction.BranchOp.TheVariants.{Beq}
-use Rattle.flat_meaning.specs.declared.instruction.RightOperand.TheVariants.{Register}
+use Rattle.flat_code.specs.declared.instruction.RightOperand.TheVariants.{Register}
 use Rattle.c_tree.specs.declared.expression.Routine.{Routine}
 use Rattle.c_tree.specs.declared.expression.Routine.TheVariants.{Putchar, Getchar, Exit, Abort}
 use Rattle.c_tree.specs.declared.program.Variable.{Variable}
@@ -21,11 +21,11 @@ use Rattle.tac_ir.specs.declared.function.Tac.{Tac}
 use Rattle.tac_ir.specs.Meaning.{function_in as code_in}
 use Rattle.tac_ir.specs.Edges.{successors, IsAmong, LeadsTo}
 use Rattle.tac_ir.specs.Temporaries.{temporaries}
-use Rattle.flat_meaning.specs.declared.instruction.FlatInstruction.{FlatInstruction}
-use Rattle.flat_meaning.specs.declared.instruction.FlatInstruction.TheVariants as flat
-use Rattle.flat_meaning.specs.declared.function.FlatProgram.{FlatProgram}
-use Rattle.flat_meaning.specs.Calls.{function_in}
-use Rattle.flat_meaning.specs.Meaning.{parameters_of, results_of}
+use Rattle.flat_code.specs.declared.instruction.FlatInstruction.{FlatInstruction}
+use Rattle.flat_code.specs.declared.instruction.FlatInstruction.TheVariants as flat
+use Rattle.flat_code.specs.declared.function.FlatProgram.{FlatProgram}
+use Rattle.flat_code.specs.Calls.{function_in}
+use Rattle.flat_code.specs.Meaning.{parameters_of, results_of}
 use Rattle.metadata_plan.specs.Registers.{words_of, words_in, all_variables, most_temporaries, variable_register}
 use Rattle.metadata_plan.specs.Registers.{temporary_register, first_free}
 use Rattle.metadata_plan.specs.Part.{takes, are_integers, is_integer_instruction, is_integer_update, SafeWithin}

@@ -4,11 +4,11 @@ use Rattle.std.proofs.Common.{true, false, List, [], ◌∷◌, length, Some}
 use Rattle.std.specs.Prelude.{slice_get}
 use Rattle.std.proofs.lemmas.Bool.{both_ways}
 use Rattle.std.proofs.lemmas.Option.{same_Some}
-use Rattle.flat_meaning.specs.declared.instruction.FlatInstruction.{FlatInstruction}
-use Rattle.flat_meaning.specs.declared.function.FlatProgram.{FlatProgram}
-use Rattle.flat_meaning.specs.Calls.{function_in}
-use Rattle.flat_meaning.specs.Meaning.{results_of}
-use Rattle.flat_routines.specs.Routine.{HasAt}
+use Rattle.flat_code.specs.declared.instruction.FlatInstruction.{FlatInstruction}
+use Rattle.flat_code.specs.declared.function.FlatProgram.{FlatProgram}
+use Rattle.flat_code.specs.Calls.{function_in}
+use Rattle.flat_code.specs.Meaning.{results_of}
+use Rattle.flat_code.specs.Routines.Routine.{HasAt}
 use Rattle.reg_plan.specs.Effects.{read_by, is_read, made_by, is_among, Leads}
 use Rattle.image_laws.proofs.Plans.Flow.{Registers, PassesEnd, Flow, Makes, Behind, sources_read}
 use Rattle.image_laws.proofs.Plans.Flow.{behind_made, onward, end_first}

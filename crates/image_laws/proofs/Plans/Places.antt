@@ -7,10 +7,10 @@ use Rattle.std.proofs.lemmas.Option.{same_Some, none-some, slice_get-get_or}
 use Rattle.tac_ir.specs.declared.instruction.Instruction.{Instruction}
 use Rattle.tac_ir.specs.declared.function.CodeFunction.{CodeFunction}
 use Rattle.tac_ir.specs.Edges.{successors}
-use Rattle.flat_meaning.specs.declared.instruction.FlatInstruction.{FlatInstruction}
-use Rattle.flat_meaning.specs.declared.instruction.FlatInstruction.TheVariants.{JumpForward, JumpBack}
-use Rattle.flat_meaning.specs.declared.function.FlatProgram.{FlatProgram}
-use Rattle.flat_routines.specs.Routine.{HasAt}
+use Rattle.flat_code.specs.declared.instruction.FlatInstruction.{FlatInstruction}
+use Rattle.flat_code.specs.declared.instruction.FlatInstruction.TheVariants.{JumpForward, JumpBack}
+use Rattle.flat_code.specs.declared.function.FlatProgram.{FlatProgram}
+use Rattle.flat_code.specs.Routines.Routine.{HasAt}
 use Rattle.metadata_plan.specs.Laid.{jump, jump_unless, times_in, edges_to, ways_to, is_join, falls, jumps}
 use Rattle.metadata_plan.specs.Laid.{size_at, size_from, place_of, laid_from, begin_code, body_of}
 use Rattle.metadata_plan.proofs.Laying.{part_of, part_length, laid_length, begin_length, place_is, part_stands}

@@ -6,12 +6,13 @@ use Rattle.std.specs.Option.{option_map}
 use Rattle.std.proofs.lemmas.Option.{same_Some, none-some, slice_get-map}
 use Rattle.std.proofs.lemmas.Bool.{eq-eqb}
 use Rattle.addr_map.specs.Places.{MapSizes}
-use Rattle.flat_meaning.specs.declared.instruction.FlatInstruction.{FlatInstruction}
-use Rattle.flat_meaning.specs.declared.instruction.FlatInstruction.TheVariants as flat
-use Rattle.flat_meaning.specs.declared.function.FlatFunction.{FlatFunction}
-use Rattle.flat_meaning.specs.declared.function.FlatProgram.{FlatProgram}
+use Rattle.flat_code.specs.declared.instruction.FlatInstruction.{FlatInstruction}
+use Rattle.flat_code.specs.declared.instruction.FlatInstruction.TheVariants as flat
+use Rattle.flat_code.specs.declared.function.FlatFunction.{FlatFunction}
+use Rattle.flat_code.specs.declared.function.FlatProgram.{FlatProgram}
 use Rattle.reg_plan.specs.declared.effects.Span.{Span}
-use Rattle.reg_plan.specs.Effects.{read_by, is_read, made_by, makes_only, is_among, one, none, many, next_of, taken_of, Leads}
+use Rattle.reg_plan.specs.Effects.{read_by, is_read, made_by, makes_only, is_among, one, none, many, next_of, taken_of}
+use Rattle.reg_plan.specs.Effects.{Leads}
 use Rattle.reg_plan.specs.Needs.{ReadsAt, MakesAt, AlwaysMakesAt, LeadsAt, IsNeeded, Read, Made, Before}
 use Rattle.reg_plan.specs.Planned.{IsPlannable, ArePlannable}
 use Rattle.flat_propagation.specs.Facts.{Facts}

@@ -1,6 +1,7 @@
 -- The registers that the block of an instruction makes and those of homes that it reads, of which instructions it is shown
 -- that their blocks assign what they read, and what is asked of a function and its program for that.
-use Rattle.std.specs.Prelude.{◌≡◌, ℕ, zero, suc, ◌+◌, ◌^◌, ◌<◌, Bool, true, false, ◌&&◌, ◌==◌, nat_le, if◌then◌else◌, List, [], ◌∷◌}
+use Rattle.std.specs.Prelude.{◌≡◌, ℕ, zero, suc, ◌+◌, ◌^◌, ◌<◌, Bool, true, false, ◌&&◌, ◌==◌, nat_le, if◌then◌else◌}
+use Rattle.std.specs.Prelude.{List, [], ◌∷◌}
 use Rattle.std.specs.Prelude.{◌++◌, length, Option, Some, None, slice_get}
 use Rattle.obj_memory.specs.declared.value.Scalar.{Scalar}
 use Rattle.obj_memory.specs.declared.value.Scalar.TheVariants.{Integer, Pointer}
@@ -24,10 +25,10 @@ use Rattle.tac_ir.specs.declared.function.Tac.{Tac}
 use Rattle.tac_ir.specs.Edges.{LeadsTo}
 use Rattle.tac_ir.specs.Fitting.{is_update_of}
 use Rattle.tac_ir.specs.Meaning.{function_in, objects_in, text_in}
-use Rattle.flat_meaning.specs.declared.function.FlatProgram.{FlatProgram}
-use Rattle.flat_meaning.specs.Calls.{function_in as flat_function}
-use Rattle.flat_meaning.specs.Meaning.{parameters_of, results_of}
-use Rattle.flat_routines.specs.Metadata.{entry_registers}
+use Rattle.flat_code.specs.declared.function.FlatProgram.{FlatProgram}
+use Rattle.flat_code.specs.Calls.{function_in as flat_function}
+use Rattle.flat_code.specs.Meaning.{parameters_of, results_of}
+use Rattle.flat_code.specs.Routines.Metadata.{entry_registers}
 use Rattle.runtime_functions.specs.declared.runtime.RuntimeFunction.{RuntimeFunction}
 use Rattle.runtime_functions.specs.Library.{held_from}
 use Rattle.runtime_functions.specs.Runtime.{runtime_list, argument_count, result_count}
@@ -36,7 +37,8 @@ use Rattle.metadata_plan.specs.Entries.{AreClosed, can_compare, key_in}
 use Rattle.metadata_relation.specs.FunctionTypes.{first_of_type}
 use Rattle.metadata_relation.specs.Homes.{register_count}
 use Rattle.metadata_relation.specs.Laid.{function_of}
-use Rattle.metadata_relation.specs.Registers.{temporary_register, variable_register, home_entry, lock_register, top_register}
+use Rattle.metadata_relation.specs.Registers.{temporary_register, variable_register, home_entry, lock_register}
+use Rattle.metadata_relation.specs.Registers.{top_register}
 use Rattle.metadata_relation.specs.Registers.{first_free, parameters_end, area_words, result_words}
 use Rattle.metadata_relation.specs.Registers.{total, variable_words}
 use Rattle.metadata_relation.specs.Blocks.{Expansion, objects_of_body, result_of, runtime_number}

@@ -1,8 +1,8 @@
 -- What is asked of the homes of virtual registers, so that a value may be needed longer than it was.
 use Rattle.std.specs.Prelude.{◌≡◌, ℕ, ◌⊎◌, List, Some, slice_get}
-use Rattle.flat_meaning.specs.declared.instruction.FlatInstruction.{FlatInstruction}
-use Rattle.flat_meaning.specs.declared.function.FlatFunction.{FlatFunction}
-use Rattle.flat_meaning.specs.declared.function.FlatProgram.{FlatProgram}
+use Rattle.flat_code.specs.declared.instruction.FlatInstruction.{FlatInstruction}
+use Rattle.flat_code.specs.declared.function.FlatFunction.{FlatFunction}
+use Rattle.flat_code.specs.declared.function.FlatProgram.{FlatProgram}
 use Rattle.reg_plan.specs.Needs.{ReadsAt, MakesAt}
 use Rattle.reg_plan.specs.Accepted.{HasHome}
 

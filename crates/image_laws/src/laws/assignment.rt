@@ -5,11 +5,11 @@ ghost use Rattle.addr_map.specs.Places.{MapSizes};
 ghost use Rattle.tac_ir.specs.declared.instruction.Instruction.{Instruction};
 ghost use Rattle.tac_ir.specs.declared.function.CodeFunction.{CodeFunction};
 ghost use Rattle.tac_ir.specs.declared.function.Tac.{Tac};
-ghost use Rattle.flat_meaning.specs.Calls.{function_in};
-ghost use Rattle.flat_meaning.specs.Meaning.{parameters_of, results_of};
-ghost use Rattle.flat_meaning.specs.declared.instruction.FlatInstruction.{FlatInstruction};
-ghost use Rattle.flat_meaning.specs.declared.function.FlatFunction.{FlatFunction};
-ghost use Rattle.flat_meaning.specs.declared.function.FlatProgram.{FlatProgram};
+ghost use Rattle.flat_code.specs.Calls.{function_in};
+ghost use Rattle.flat_code.specs.Meaning.{parameters_of, results_of};
+ghost use Rattle.flat_code.specs.declared.instruction.FlatInstruction.{FlatInstruction};
+ghost use Rattle.flat_code.specs.declared.function.FlatFunction.{FlatFunction};
+ghost use Rattle.flat_code.specs.declared.function.FlatProgram.{FlatProgram};
 ghost use Rattle.tac_ir.specs.Edges.{successors};
 ghost use Rattle.shadow_space.specs.Form.{EntryCode};
 ghost use Rattle.shadow_space.specs.Direct.{direct_read, direct_write};
@@ -33,9 +33,9 @@ ghost use Rattle.image_laws.specs.Plans.Instructions.{IsDefinite, HasDefiniteFun
 
 use shadow_space::ShadowForm;
 
-/// A function of laid blocks, whatever these are, can be planned: where the code of each node reads registers alone that
-/// are assigned on each path to it, or that it has made itself, no value but a parameter is needed where the function is
-/// entered. Each register that is named has a home of its own.
+/// A function of laid blocks, whatever these are, can be planned: where the code of each node reads registers alone
+/// that are assigned on each path to it, or that it has made itself, no value but a parameter is needed where the
+/// function is entered. Each register that is named has a home of its own.
 pub fn assigned_functions_are_plannable()
     ensures { (p : FlatProgram) (u count : ℕ) (put : Instruction → List FlatInstruction) (begin : List FlatInstruction)
         (c : CodeFunction) (begins : List ℕ) (made : Instruction → List ℕ) (f : FlatFunction)
@@ -44,10 +44,10 @@ pub fn assigned_functions_are_plannable()
         → IsPlannable p u f }
 {}
 
-/// The block of an instruction that `assigns_alone` names, at a node of a function that is set out so, reads registers alone
-/// that are given where the function begins, or made on each path to the node, or made by the block itself on each way
-/// there; it makes those of the temporary that it gives, with its entry where that is kept, and those of the homes of a
-/// block that it enters; and it names none but those that have homes.
+/// The block of an instruction that `assigns_alone` names, at a node of a function that is set out so, reads registers
+/// alone that are given where the function begins, or made on each path to the node, or made by the block itself on
+/// each way there; it makes those of the temporary that it gives, with its entry where that is kept, and those of the
+/// homes of a block that it enters; and it names none but those that have homes.
 pub fn blocks_assign_what_they_read()
     ensures { (p : FlatProgram) (u n parameters : ℕ) (e : Expansion) (read write : EntryCode) (c : CodeFunction)
         (begins : List ℕ) (i : Instruction) → AssignEntries read write → HasCallees p e.code
@@ -76,8 +76,8 @@ pub fn expanded_programs_have_callees<S: ShadowForm>()
 {}
 
 /// The expansion of a function of the code can be planned, where the lists of the shadow space assign what is asked of
-/// them, each of its registers has a home of its own, and the function is definite: no value but a parameter is needed where
-/// it is entered.
+/// them, each of its registers has a home of its own, and the function is definite: no value but a parameter is needed
+/// where it is entered.
 pub fn expanded_functions_are_plannable()
     ensures { (p : FlatProgram) (e : Expansion) (u : ℕ) (c : CodeFunction) (homes : List ℕ) (read write : EntryCode)
         → AssignEntries read write → HasCallees p e.code → e.inline ≡ inline_lists read write e.map
@@ -86,8 +86,8 @@ pub fn expanded_functions_are_plannable()
         → IsPlannable p u (function_of e u c homes) }
 {}
 
-/// A function whose body by itself assigns what it reads, given its parameters, can be planned, where each register that
-/// it names has a home of its own.
+/// A function whose body by itself assigns what it reads, given its parameters, can be planned, where each register
+/// that it names has a home of its own.
 pub fn assigned_bodies_are_plannable()
     ensures { (p : FlatProgram) (u count : ℕ) (f : FlatFunction) → length f.body < 2 ^ 32
         → Assigns p u (λ y. y < f.parameters) f.body 0 [] → Names p u f.body (λ y. y < count) → HasOwnHomes f count
@@ -100,8 +100,8 @@ pub fn entry_functions_are_plannable()
         → results_of (function_in p t.main) ≤ 2 → IsPlannable p u (entry_of m t) }
 {}
 
-/// An expanded program can be planned, where its functions are definite, each register has a home of its own, and those of
-/// the runtime can be planned.
+/// An expanded program can be planned, where its functions are definite, each register has a home of its own, and those
+/// of the runtime can be planned.
 pub fn expanded_programs_are_plannable()
     ensures { (e : Expansion) (homes : CodeFunction → List ℕ) (runtime : List FlatFunction) (read write : EntryCode)
         → AssignEntries read write → HasCallees (program_of e homes runtime) e.code

@@ -2,10 +2,10 @@
 
 ghost use Rattle.std.specs.Prelude.{◌≡◌, ◌+◌, ◌*◌, ◌≤◌, ℕ, List, length, Some};
 ghost use Rattle.addr_map.specs.Places.{MapSizes, code_size};
-ghost use Rattle.flat_meaning.specs.declared.instruction.FlatInstruction.{FlatInstruction};
-ghost use Rattle.flat_meaning.specs.declared.function.FlatFunction.{FlatFunction};
-ghost use Rattle.flat_meaning.specs.declared.function.FlatProgram.{FlatProgram};
-ghost use Rattle.flat_meaning.specs.Calls.{function_in};
+ghost use Rattle.flat_code.specs.declared.instruction.FlatInstruction.{FlatInstruction};
+ghost use Rattle.flat_code.specs.declared.function.FlatFunction.{FlatFunction};
+ghost use Rattle.flat_code.specs.declared.function.FlatProgram.{FlatProgram};
+ghost use Rattle.flat_code.specs.Calls.{function_in};
 ghost use Rattle.reg_plan.specs.declared.plan.FunctionPlan.{FunctionPlan};
 ghost use Rattle.reg_plan.specs.Tests.{AreAccepted};
 ghost use Rattle.machine_laws.specs.Segments.Segments.{function_words, code_bytes};

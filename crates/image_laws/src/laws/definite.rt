@@ -7,7 +7,7 @@ ghost use Rattle.c_tree.specs.ValidProgram.{is_valid_program};
 ghost use Rattle.tac_ir.specs.declared.function.CodeFunction.{CodeFunction};
 ghost use Rattle.tac_ir.specs.declared.function.Tac.{Tac};
 ghost use Rattle.tac_ir.specs.Meaning.{function_in};
-ghost use Rattle.flat_meaning.specs.declared.function.FlatFunction.{FlatFunction};
+ghost use Rattle.flat_code.specs.declared.function.FlatFunction.{FlatFunction};
 ghost use Rattle.c_lower.specs.Liveness.Liveness.{IsLive};
 ghost use Rattle.shadow_space.specs.Form.{EntryCode};
 ghost use Rattle.metadata_relation.specs.Homes.{HasRoom, homes, register_count};
@@ -30,8 +30,8 @@ use metadata_relation::laws::laid::{
 };
 use shadow_space::ShadowForm;
 
-/// In the checked code of a valid program the home of an object is read where it is one of the body's, or where its block
-/// was entered on each path: by what names it, by checks that compare with it, and where the block is left.
+/// In the checked code of a valid program the home of an object is read where it is one of the body's, or where its
+/// block was entered on each path: by what names it, by checks that compare with it, and where the block is left.
 pub fn homes_are_read_in_their_blocks()
     ensures { (p : Program) (r : Tac) → is_valid_program p ≡ true → IsChecked p r → (u : ℕ) (c : CodeFunction)
         → slice_get r.functions u ≡ Some c → HasHomesEntered c }
@@ -58,8 +58,8 @@ pub fn checked_functions_are_definite()
         → IsWhole x.layout.expansion.code c → IsDefinite x.layout.expansion.code u c }
 {}
 
-/// A laid expansion of checked code, all of whose instructions are covered, can be planned with a home of its own for each
-/// register: where its code is whole, its bodies are short, and the functions of the runtime can be planned.
+/// A laid expansion of checked code, all of whose instructions are covered, can be planned with a home of its own for
+/// each register: where its code is whole, its bodies are short, and the functions of the runtime can be planned.
 pub fn laid_expansions_are_plannable<S: ShadowForm>()
     ensures { (p : Program) (r : Tac) (map : MapSizes) (l : Laid) (read write : EntryCode) → is_valid_program p ≡ true
         → IsChecked p r → AssignEntries read write → IsLaidExpansion read write S.entry (S.IsGood map) map r l
@@ -69,7 +69,8 @@ pub fn laid_expansions_are_plannable<S: ShadowForm>()
     homes_fit_into_activation_records();
 }
 
-/// So it can be planned when it is propagated, where each register that a function of the runtime uses has a home of its own.
+/// So it can be planned when it is propagated, where each register that a function of the runtime uses has a home of
+/// its own.
 pub fn propagated_expansions_are_plannable<S: ShadowForm>()
     ensures { (p : Program) (r : Tac) (map : MapSizes) (l : Laid) (read write : EntryCode) → is_valid_program p ≡ true
         → IsChecked p r → AssignEntries read write → IsLaidExpansion read write S.entry (S.IsGood map) map r l

@@ -3,7 +3,7 @@
 ghost use Rattle.std.specs.Prelude.{◌≡◌, ℕ, List};
 ghost use Rattle.addr_map.specs.Places.{MapSizes, AreMapped};
 ghost use Rattle.tac_ir.specs.declared.function.CodeFunction.{CodeFunction};
-ghost use Rattle.flat_meaning.specs.declared.function.FlatFunction.{FlatFunction};
+ghost use Rattle.flat_code.specs.declared.function.FlatFunction.{FlatFunction};
 ghost use Rattle.shadow_space.specs.Form.{EntryCode};
 ghost use Rattle.shadow_space.specs.Direct.{direct_read, direct_write};
 ghost use Rattle.shadow_space.specs.TwoLevel.Code.{two_level_read_behind, two_level_write_behind};
@@ -32,8 +32,8 @@ pub fn forms_fit_entries()
     ensures two_levels { (m : MapSizes) → AreMapped m → FitEntries two_level_read_behind two_level_write_behind m }
 {}
 
-/// An expanded program is encodable, whatever homes its registers have: where the numbers of its code are those of their
-/// types, and each function of the runtime has room for its return address.
+/// An expanded program is encodable, whatever homes its registers have: where the numbers of its code are those of
+/// their types, and each function of the runtime has room for its return address.
 pub fn expanded_programs_are_encodable<S: ShadowForm>()
     ensures { (e : Expansion) (homes : CodeFunction → List ℕ) (runtime : List FlatFunction) (read write : EntryCode)
         → FitEntries read write e.map → HasShortPlaces e.map → e.inline ≡ inline_lists read write e.map → FitsCode e

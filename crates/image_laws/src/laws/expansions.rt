@@ -13,7 +13,7 @@ use behaviours::following_is_faithful;
 use c_lower::laws::lowered_code_follows_its_program;
 use check_elim::laws::code_without_available_checks_means_the_same;
 use check_insert::laws::checked_code_is_never_stuck;
-use flat_meaning::laws::steps_begin_at_most_one_turn;
+use flat_code::laws::steps_begin_at_most_one_turn;
 use flat_propagation::laws::propagated_programs_mean_the_same;
 use metadata_relation::laws::inline::lists_of_a_form_are_inline_code;
 use metadata_relation::laws::laid::laid_programs_are_expanded;
@@ -26,9 +26,9 @@ use rv_sim::laws::machine_is_machine;
 use shadow_space::ShadowForm;
 use source_meaning::laws::running_has_begun_all_turns;
 
-/// An image of a valid program of at most 4096 functions, made of an expansion of its checked code under any form of the
-/// shadow space, all of whose instructions are covered, does what the program means: it shows just what the program does,
-/// with at most 1008 instructions for each unit of the program's work.
+/// An image of a valid program of at most 4096 functions, made of an expansion of its checked code under any form of
+/// the shadow space, all of whose instructions are covered, does what the program means: it shows just what the program
+/// does, with at most 1008 instructions for each unit of the program's work.
 pub fn images_of_expansions_do_what_is_meant<S: ShadowForm>()
     ensures { (p : Program) (budgets : BudgetSizes) → is_valid_program p ≡ true → length p.functions ≤ 4096
         → AreMapped (sizes_of p budgets) → (r : Tac) → IsChecked p r → (file : List ℕ)

@@ -1,8 +1,9 @@
-//! Laws of propagated programs for what stands behind propagation, each as the contract of a function that does nothing.
+//! Laws of propagated programs for what stands behind propagation, each as the contract of a function that does
+//! nothing.
 
 ghost use Rattle.std.specs.Prelude.{◌≡◌};
 ghost use Rattle.addr_map.specs.Places.{MapSizes};
-ghost use Rattle.flat_meaning.specs.declared.function.FlatProgram.{FlatProgram};
+ghost use Rattle.flat_code.specs.declared.function.FlatProgram.{FlatProgram};
 ghost use Rattle.reg_plan.specs.Planned.{ArePlannable};
 ghost use Rattle.machine_laws.specs.Following.Code.{IsEncodable};
 ghost use Rattle.machine_laws.specs.Following.Start.{IsStartable};

@@ -13,7 +13,7 @@ use crate::list::put;
 use crate::place_updates::{PlaceUpdate, put_update};
 use crate::structures::put_structure_write;
 use c_tree::Kind;
-use flat_meaning::FlatInstruction;
+use flat_code::FlatInstruction;
 use sb_base::{Ending, Line};
 use shadow_space::ShadowForm;
 use std::alloc::AllocError;

@@ -10,7 +10,7 @@ use crate::calls::{Call, put_call, put_call_through};
 use crate::context::FunctionContext;
 use crate::printing::{PrintCall, put_print};
 use crate::runtime_calls::{LibraryCall, put_library};
-use flat_meaning::FlatInstruction;
+use flat_code::FlatInstruction;
 use std::alloc::AllocError;
 use tac_ir::Instruction;
 

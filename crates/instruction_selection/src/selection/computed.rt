@@ -3,7 +3,7 @@
 ghost use Rattle.std.specs.Prelude.{◌≡◌, ◌+◌, ◌<◌, ◌≤◌, ◌^◌, ◌++◌, true, OnOk};
 ghost use Rattle.shadow_space.specs.Form.{EntryCode};
 ghost use Rattle.std.specs.Prelude.{◌∷◌, []};
-ghost use Rattle.flat_meaning.specs.declared.instruction.FlatInstruction.TheVariants.{End};
+ghost use Rattle.flat_code.specs.declared.instruction.FlatInstruction.TheVariants.{End};
 ghost use Rattle.sb_base.specs.declared.ending.Ending.TheVariants.{Abort};
 ghost use Rattle.instruction_selection.specs.Contexts.{IsPrepared};
 ghost use Rattle.instruction_selection.specs.Registers.{IsAmong};
@@ -14,7 +14,7 @@ use crate::entries::put_untagged;
 use crate::list::put;
 use crate::values::put_converted;
 use c_tree::Kind;
-use flat_meaning::FlatInstruction;
+use flat_code::FlatInstruction;
 use flat_operators::binary::{Registers, put_binary};
 use flat_operators::unary::put_unary;
 use sb_base::{Ending, Line};

@@ -2,7 +2,7 @@
 
 ghost use Rattle.std.specs.Prelude.{◌≡◌, ◌+◌, ◌<◌, ◌≤◌, ◌^◌, ◌++◌, Bool, true, OnOk};
 ghost use Rattle.std.specs.Prelude.{◌∷◌, []};
-ghost use Rattle.flat_meaning.specs.declared.instruction.FlatInstruction.TheVariants.{Branch as Choice};
+ghost use Rattle.flat_code.specs.declared.instruction.FlatInstruction.TheVariants.{Branch as Choice};
 ghost use Rattle.instruction_selection.specs.Contexts.{IsPrepared};
 ghost use Rattle.instruction_selection.specs.Registers.{IsAmong};
 ghost use Rattle.instruction_selection.specs.Selected.{is_control, selected};
@@ -10,7 +10,7 @@ ghost use Rattle.instruction_selection.specs.Selected.{is_control, selected};
 use crate::bodies::put_return;
 use crate::context::FunctionContext;
 use crate::list::put;
-use flat_meaning::{FlatInstruction, RightOperand};
+use flat_code::{FlatInstruction, RightOperand};
 use flat_operators::constant::put_constant;
 use rv_isa::BranchOp;
 use shadow_space::ShadowForm;

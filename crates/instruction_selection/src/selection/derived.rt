@@ -18,7 +18,7 @@ use crate::context::FunctionContext;
 use crate::entries::{held_from, put_entry_if, put_untagged};
 use crate::pointers::{MemberRange, put_moved, put_narrowed};
 use c_tree::OffsetForm;
-use flat_meaning::FlatInstruction;
+use flat_code::FlatInstruction;
 use flat_operators::binary::Registers;
 use flat_operators::pointers::put_difference;
 use std::alloc::AllocError;
@@ -114,7 +114,8 @@ fn put_by_elements(
     }
 }
 
-/// Puts the code of a pointer that moves, of a difference or of a pointer to a member behind a list. It fails only for want of memory.
+/// Puts the code of a pointer that moves, of a difference or of a pointer to a member behind a list. It fails only for
+/// want of memory.
 pub fn put_derived(
     code: &mut Vec<FlatInstruction>,
     context: &FunctionContext,

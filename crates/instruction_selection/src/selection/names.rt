@@ -9,11 +9,12 @@ ghost use Rattle.instruction_selection.specs.Selected.{is_name_pointer, selected
 use crate::context::FunctionContext;
 use crate::named::{put_function, put_home};
 use crate::statics::put_static;
-use flat_meaning::FlatInstruction;
+use flat_code::FlatInstruction;
 use std::alloc::AllocError;
 use tac_ir::Instruction;
 
-/// Puts the code of the pointer to an object or a function that is named behind a list. It fails only for want of memory.
+/// Puts the code of the pointer to an object or a function that is named behind a list. It fails only for want of
+/// memory.
 pub fn put_name_pointer(
     code: &mut Vec<FlatInstruction>,
     context: &FunctionContext,

@@ -8,7 +8,7 @@ ghost use Rattle.instruction_selection.specs.Selected.{is_of_objects, selected, 
 use crate::blocks::{block_objects, put_enter, put_leave, put_zero_object};
 use crate::context::FunctionContext;
 use crate::initializers::{put_part, put_text};
-use flat_meaning::FlatInstruction;
+use flat_code::FlatInstruction;
 use shadow_space::ShadowForm;
 use std::alloc::AllocError;
 use tac_ir::Instruction;
@@ -39,7 +39,8 @@ fn put_of_block<S: ShadowForm>(
     }
 }
 
-/// Puts the code of what is done to the object of a variable, or where a block is entered or left, behind a list. It fails only for want of memory.
+/// Puts the code of what is done to the object of a variable, or where a block is entered or left, behind a list. It
+/// fails only for want of memory.
 pub fn put_of_objects<S: ShadowForm>(
     code: &mut Vec<FlatInstruction>,
     context: &FunctionContext,

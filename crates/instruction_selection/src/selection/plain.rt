@@ -11,7 +11,7 @@ use crate::entries::put_untagged;
 use crate::updates::{PlainUpdate, put_plain_update};
 use crate::values::{put_get, put_set};
 use crate::variables::plain_type;
-use flat_meaning::FlatInstruction;
+use flat_code::FlatInstruction;
 use flat_operators::constant::put_constant;
 use std::alloc::AllocError;
 use tac_ir::Instruction;
@@ -52,7 +52,8 @@ fn put_updated(
     put_plain_update(code, context, *scalar, &plain, with_entry, context.free())
 }
 
-/// Puts the code of a constant, or of a plain variable that is read, set or updated, behind a list. It fails only for want of memory.
+/// Puts the code of a constant, or of a plain variable that is read, set or updated, behind a list. It fails only for
+/// want of memory.
 pub fn put_plain(
     code: &mut Vec<FlatInstruction>,
     context: &FunctionContext,

@@ -26,23 +26,23 @@ use Rattle.source_meaning.specs.State.{State as Source, Gives, on, ◌>>◌, don
 use Rattle.source_meaning.specs.Actions.{integer, place_or_stop, write_scalar, store as source_store}
 use Rattle.source_meaning.specs.Keeping.{IsDirect}
 use Rattle.source_meaning.proofs.Holding.{direct_allowed}
-use Rattle.flat_meaning.specs.declared.instruction.FlatInstruction.{FlatInstruction}
-use Rattle.flat_meaning.specs.Memory.{Bytes, store}
-use Rattle.flat_meaning.specs.Spaces.{is_of_objects, is_allowed}
-use Rattle.flat_meaning.specs.State.{State}
-use Rattle.flat_meaning.specs.Words.{IsOfWords}
-use Rattle.flat_meaning.specs.Meaning.{Context, Goes}
-use Rattle.flat_meaning.proofs.Stored.{store_beside}
-use Rattle.flat_routines.specs.Registers.{OthersStay}
-use Rattle.flat_routines.specs.Routine.{HasAt, Reaches}
-use Rattle.flat_routines.specs.Effects.{effects}
-use Rattle.flat_routines.specs.Metadata.{View}
-use Rattle.flat_routines.proofs.Rules.{line_on, arrived, weaken}
-use Rattle.flat_routines.proofs.Regions.{laid_out, spaces_follow}
-use Rattle.flat_routines.proofs.Words.{IsLocal}
-use Rattle.flat_routines.specs.Objects.StandsFor.{Views, Keys, StandsFor}
-use Rattle.flat_routines.specs.Objects.Changes.{IsPut}
-use Rattle.flat_routines.proofs.Objects.Moves.{put_stands}
+use Rattle.flat_code.specs.declared.instruction.FlatInstruction.{FlatInstruction}
+use Rattle.flat_code.specs.Memory.{Bytes, store}
+use Rattle.flat_code.specs.Spaces.{is_of_objects, is_allowed}
+use Rattle.flat_code.specs.State.{State}
+use Rattle.flat_code.specs.Words.{IsOfWords}
+use Rattle.flat_code.specs.Meaning.{Context, Goes}
+use Rattle.flat_code.proofs.Stored.{store_beside}
+use Rattle.flat_code.specs.Routines.Registers.{OthersStay}
+use Rattle.flat_code.specs.Routines.Routine.{HasAt, Reaches}
+use Rattle.flat_code.specs.Routines.Effects.{effects}
+use Rattle.flat_code.specs.Routines.Metadata.{View}
+use Rattle.flat_code.proofs.Routines.Rules.{line_on, arrived, weaken}
+use Rattle.flat_code.proofs.Routines.Regions.{laid_out, spaces_follow}
+use Rattle.flat_code.proofs.Routines.Words.{IsLocal}
+use Rattle.flat_code.specs.Routines.Objects.StandsFor.{Views, Keys, StandsFor}
+use Rattle.flat_code.specs.Routines.Objects.Changes.{IsPut}
+use Rattle.flat_code.proofs.Routines.Objects.Moves.{put_stands}
 use Rattle.shadow_space.proofs.Entries.{context_of}
 use Rattle.flat_actions.specs.Actions.{AreSpacesGood, IsFor, IsHeldBy, Nowhere, Word, program_basis}
 use Rattle.flat_actions.specs.Actions.{StaysElsewhere}

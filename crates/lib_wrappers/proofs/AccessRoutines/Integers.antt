@@ -16,19 +16,19 @@ use Rattle.source_meaning.specs.State.{State as Source}
 use Rattle.source_meaning.specs.Actions.{load as source_load}
 use Rattle.source_meaning.specs.Keeping.{IsDirect}
 use Rattle.source_meaning.proofs.Holding.{direct_allowed}
-use Rattle.flat_meaning.specs.declared.instruction.FlatInstruction.{FlatInstruction}
-use Rattle.flat_meaning.specs.Memory.{Bytes, load}
-use Rattle.flat_meaning.specs.Spaces.{is_allowed}
-use Rattle.flat_meaning.specs.State.{State}
-use Rattle.flat_meaning.specs.Words.{IsOfWords}
-use Rattle.flat_meaning.specs.Meaning.{Context, Goes}
-use Rattle.flat_meaning.proofs.Stored.{put_same, put_other, load_fits as loaded_below}
-use Rattle.flat_routines.specs.Routine.{HasAt, Reaches}
-use Rattle.flat_routines.specs.Effects.{effects}
-use Rattle.flat_routines.specs.Metadata.{View}
-use Rattle.flat_routines.proofs.Rules.{line_on, arrived, weaken}
-use Rattle.flat_routines.proofs.Regions.{laid_out}
-use Rattle.flat_routines.specs.Objects.StandsFor.{Views, Keys}
+use Rattle.flat_code.specs.declared.instruction.FlatInstruction.{FlatInstruction}
+use Rattle.flat_code.specs.Memory.{Bytes, load}
+use Rattle.flat_code.specs.Spaces.{is_allowed}
+use Rattle.flat_code.specs.State.{State}
+use Rattle.flat_code.specs.Words.{IsOfWords}
+use Rattle.flat_code.specs.Meaning.{Context, Goes}
+use Rattle.flat_code.proofs.Stored.{put_same, put_other, load_fits as loaded_below}
+use Rattle.flat_code.specs.Routines.Routine.{HasAt, Reaches}
+use Rattle.flat_code.specs.Routines.Effects.{effects}
+use Rattle.flat_code.specs.Routines.Metadata.{View}
+use Rattle.flat_code.proofs.Routines.Rules.{line_on, arrived, weaken}
+use Rattle.flat_code.proofs.Routines.Regions.{laid_out}
+use Rattle.flat_code.specs.Routines.Objects.StandsFor.{Views, Keys}
 use Rattle.shadow_space.proofs.Entries.{context_of}
 use Rattle.flat_actions.specs.Actions.{IsFor, IsHeldBy, Word, Leaves, views_of, work_of, program_basis}
 use Rattle.lib_wrappers.specs.declared.accesses.held.HeldScalar.TheVariants.{Integer}
@@ -67,7 +67,7 @@ module _ (map : MapSizes) (mapped : AreMapped map) (entry : View) (IsGood : Byte
       allowed : IsAllowed x.objects v (size_of ty) p
       allowed = direct_allowed x.objects v (size_of ty) d
 
-      in_objects : Rattle.flat_meaning.specs.Spaces.is_of_objects map v.word (size_of ty) ≡ true
+      in_objects : Rattle.flat_code.specs.Spaces.is_of_objects map v.word (size_of ty) ≡ true
       in_objects = of_objects g k x.objects f.memory (laid_out map mapped) stands.objects v (size_of ty) p allowed
 
       may_load : is_allowed map ((f.values address + 0) % 2 ^ 64) (load_bytes (load_op ty)) ≡ true

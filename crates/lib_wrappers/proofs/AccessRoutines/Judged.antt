@@ -20,19 +20,19 @@ use Rattle.source_meaning.specs.Judging.{is_within, is_live_tag}
 use Rattle.source_meaning.specs.Keeping.{IsDirect}
 use Rattle.source_meaning.specs.Library.{argument}
 use Rattle.source_meaning.proofs.JudgingTests.{two_tests}
-use Rattle.flat_meaning.specs.declared.instruction.RightOperand.TheVariants.{Number}
-use Rattle.flat_meaning.specs.declared.instruction.FlatInstruction.{FlatInstruction}
-use Rattle.flat_meaning.specs.Memory.{Bytes}
-use Rattle.flat_meaning.specs.State.{State}
-use Rattle.flat_meaning.specs.Words.{IsOfWords}
-use Rattle.flat_meaning.specs.Meaning.{Context, Goes}
-use Rattle.flat_routines.specs.declared.registers.Held.{Held}
-use Rattle.flat_routines.specs.Registers.{AreBelow, OthersStay}
-use Rattle.flat_routines.specs.Routine.{HasAt, Outcome, Continues, Halts, Reaches, Either, Never}
-use Rattle.flat_routines.specs.Metadata.{held_registers}
-use Rattle.flat_routines.proofs.Steps.{has_front, has_back}
-use Rattle.flat_routines.proofs.Rules.{weaken, ends_there, next}
-use Rattle.flat_routines.specs.Objects.StandsFor.{Views, Keys}
+use Rattle.flat_code.specs.declared.instruction.RightOperand.TheVariants.{Number}
+use Rattle.flat_code.specs.declared.instruction.FlatInstruction.{FlatInstruction}
+use Rattle.flat_code.specs.Memory.{Bytes}
+use Rattle.flat_code.specs.State.{State}
+use Rattle.flat_code.specs.Words.{IsOfWords}
+use Rattle.flat_code.specs.Meaning.{Context, Goes}
+use Rattle.flat_code.specs.declared.registers.Held.{Held}
+use Rattle.flat_code.specs.Routines.Registers.{AreBelow, OthersStay}
+use Rattle.flat_code.specs.Routines.Routine.{HasAt, Outcome, Continues, Halts, Reaches, Either, Never}
+use Rattle.flat_code.specs.Routines.Metadata.{held_registers}
+use Rattle.flat_code.proofs.Routines.Steps.{has_front, has_back}
+use Rattle.flat_code.proofs.Routines.Rules.{weaken, ends_there, next}
+use Rattle.flat_code.specs.Routines.Objects.StandsFor.{Views, Keys}
 use Rattle.flat_actions.specs.Judgement.Judging.{IsSameBut}
 use Rattle.flat_actions.specs.Actions.{IsFor, Holder, Word, Pointer as InPointer, registers_of, AreHeldBy}
 use Rattle.flat_actions.specs.Actions.{Leaves, Basis, context_in, IsAction, IsActionIn, views_of, work_of}

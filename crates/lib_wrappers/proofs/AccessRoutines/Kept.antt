@@ -7,13 +7,13 @@ use Rattle.byteorder.specs.Endian.{little_bytes}
 use Rattle.byteorder.specs.Numbers.{length-bytes_low_first}
 use Rattle.addr_map.specs.declared.region.Region.TheVariants.{Locks, StructureValues}
 use Rattle.addr_map.specs.Places.{MapSizes, AreMapped, spaces_begin, region_start}
-use Rattle.flat_meaning.specs.Memory.{Bytes, put, store}
-use Rattle.flat_meaning.proofs.Stored.{put_same, store_beside}
-use Rattle.flat_routines.specs.Metadata.{View, KeepsShadow}
-use Rattle.flat_routines.proofs.Regions.{spaces_follow}
-use Rattle.flat_routines.proofs.Words.{IsLocal}
-use Rattle.flat_routines.specs.Objects.Changes.{KeepsTables, IsPut}
-use Rattle.flat_routines.proofs.Objects.Changing.{global_is_lock}
+use Rattle.flat_code.specs.Memory.{Bytes, put, store}
+use Rattle.flat_code.proofs.Stored.{put_same, store_beside}
+use Rattle.flat_code.specs.Routines.Metadata.{View, KeepsShadow}
+use Rattle.flat_code.proofs.Routines.Regions.{spaces_follow}
+use Rattle.flat_code.proofs.Routines.Words.{IsLocal}
+use Rattle.flat_code.specs.Routines.Objects.Changes.{KeepsTables, IsPut}
+use Rattle.flat_code.proofs.Routines.Objects.Changing.{global_is_lock}
 use Rattle.lock_space.proofs.Spaces.{locks_laid_out}
 use Rattle.lock_space.proofs.Local.{lock_kept, counter_kept, good_kept as locks_kept}
 use Rattle.heap_space.proofs.Regions.{table_laid_out}

@@ -5,18 +5,18 @@ use Rattle.addr_map.specs.Places.{MapSizes, AreMapped}
 use Rattle.rv_isa.specs.declared.instruction.BranchOp.TheVariants.{Bne}
 use Rattle.rv_isa.specs.declared.instruction.RegOp.TheVariants.{Sll}
 use Rattle.rv_isa.specs.declared.instruction.StoreOp.TheVariants.{Sd}
-use Rattle.flat_meaning.specs.declared.instruction.RightOperand.TheVariants.{Number}
-use Rattle.flat_meaning.specs.declared.instruction.FlatInstruction.TheVariants.{Operate, Store}
-use Rattle.flat_meaning.specs.Memory.{Bytes}
-use Rattle.flat_routines.specs.Registers.{AreBelow}
-use Rattle.flat_routines.specs.Routine.{unless_code}
-use Rattle.flat_routines.specs.Metadata.{View, held_registers}
-use Rattle.flat_routines.specs.InputOutput.{IsWithoutInputOutput}
-use Rattle.flat_routines.specs.Shape.{HasShape}
-use Rattle.flat_routines.proofs.Distinct.{below_more}
-use Rattle.flat_routines.proofs.InputOutput.{computes}
-use Rattle.flat_routines.proofs.Shape.{shaped, both, piece, below_both, shaped_append, shaped_unless}
-use Rattle.flat_routines.proofs.Words.{IsLocal}
+use Rattle.flat_code.specs.declared.instruction.RightOperand.TheVariants.{Number}
+use Rattle.flat_code.specs.declared.instruction.FlatInstruction.TheVariants.{Operate, Store}
+use Rattle.flat_code.specs.Memory.{Bytes}
+use Rattle.flat_code.specs.Routines.Registers.{AreBelow}
+use Rattle.flat_code.specs.Routines.Routine.{unless_code}
+use Rattle.flat_code.specs.Routines.Metadata.{View, held_registers}
+use Rattle.flat_code.specs.Routines.InputOutput.{IsWithoutInputOutput}
+use Rattle.flat_code.specs.Routines.Shape.{HasShape}
+use Rattle.flat_code.proofs.Routines.Distinct.{below_more}
+use Rattle.flat_code.proofs.Routines.InputOutput.{computes}
+use Rattle.flat_code.proofs.Routines.Shape.{shaped, both, piece, below_both, shaped_append, shaped_unless}
+use Rattle.flat_code.proofs.Routines.Words.{IsLocal}
 use Rattle.shadow_space.specs.Form.{EntryCode, ReadsEntries, WritesEntries, HasEntryShape}
 use Rattle.flat_actions.specs.Actions.{registers_of, program_basis}
 use Rattle.flat_actions.proofs.Shapes.{pointer_from}

@@ -19,11 +19,11 @@ use Rattle.obj_memory.specs.Integers.{size_of, fit}
 use Rattle.obj_memory.specs.Objects.{Objects, object_at}
 use Rattle.obj_memory.specs.Access.{bytes_at, tag_of, tag_at}
 use Rattle.obj_memory.specs.Sound.{IsAllowed}
-use Rattle.flat_meaning.specs.Memory.{Bytes, load}
-use Rattle.flat_meaning.specs.Spaces.{is_of_objects, is_allowed}
-use Rattle.flat_routines.specs.Metadata.{no_metadata, IsObjectWord}
-use Rattle.flat_routines.proofs.Regions.{IsLaidOut}
-use Rattle.flat_routines.specs.Objects.StandsFor.{Views, Keys, spell, StandsFor}
+use Rattle.flat_code.specs.Memory.{Bytes, load}
+use Rattle.flat_code.specs.Spaces.{is_of_objects, is_allowed}
+use Rattle.flat_code.specs.Routines.Metadata.{no_metadata, IsObjectWord}
+use Rattle.flat_code.proofs.Routines.Regions.{IsLaidOut}
+use Rattle.flat_code.specs.Routines.Objects.StandsFor.{Views, Keys, spell, StandsFor}
 use Rattle.lib_wrappers.specs.AccessRoutines.Accessing.{load_op}
 
 -- ---- numbers

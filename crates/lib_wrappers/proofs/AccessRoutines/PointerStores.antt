@@ -29,28 +29,28 @@ use Rattle.source_meaning.specs.State.{State as Source, ◌>>◌, done}
 use Rattle.source_meaning.specs.Actions.{integer, store as source_store}
 use Rattle.source_meaning.specs.Keeping.{IsDirect}
 use Rattle.source_meaning.proofs.Holding.{direct_allowed}
-use Rattle.flat_meaning.specs.declared.instruction.RightOperand.TheVariants.{Number}
-use Rattle.flat_meaning.specs.declared.instruction.FlatInstruction.{FlatInstruction}
-use Rattle.flat_meaning.specs.declared.instruction.FlatInstruction.TheVariants.{Operate, Store}
-use Rattle.flat_meaning.specs.Memory.{Bytes, store}
-use Rattle.flat_meaning.specs.Spaces.{is_of_objects, is_allowed}
-use Rattle.flat_meaning.specs.State.{State}
-use Rattle.flat_meaning.specs.Words.{IsOfWords}
-use Rattle.flat_meaning.specs.Meaning.{Context, Goes}
-use Rattle.flat_meaning.proofs.Stored.{put_same, put_other, store_beside}
-use Rattle.flat_routines.specs.declared.registers.Held.{Held}
-use Rattle.flat_routines.specs.Registers.{AreBelow, OthersStay}
-use Rattle.flat_routines.specs.Routine.{HasAt, Outcome, Continues, Halts, Reaches, Either, Never, unless_code}
-use Rattle.flat_routines.specs.Effects.{worked, effects, AreAllowed}
-use Rattle.flat_routines.specs.Metadata.{View, metadata_in, entry_registers, held_registers, IsObjectWord}
-use Rattle.flat_routines.proofs.Rules.{line_on, unless, weaken}
-use Rattle.flat_routines.proofs.Regions.{laid_out, spaces_follow}
-use Rattle.flat_routines.proofs.Branches.{if_differ, if_same}
-use Rattle.flat_routines.proofs.Words.{IsLocal}
-use Rattle.flat_routines.specs.Objects.StandsFor.{Views, Keys, spell, StandsFor}
-use Rattle.flat_routines.specs.Objects.Changes.{Changes, IsPut}
-use Rattle.flat_routines.proofs.Objects.Changing.{word_of, changed}
-use Rattle.flat_routines.proofs.Objects.Moves.{put_stands}
+use Rattle.flat_code.specs.declared.instruction.RightOperand.TheVariants.{Number}
+use Rattle.flat_code.specs.declared.instruction.FlatInstruction.{FlatInstruction}
+use Rattle.flat_code.specs.declared.instruction.FlatInstruction.TheVariants.{Operate, Store}
+use Rattle.flat_code.specs.Memory.{Bytes, store}
+use Rattle.flat_code.specs.Spaces.{is_of_objects, is_allowed}
+use Rattle.flat_code.specs.State.{State}
+use Rattle.flat_code.specs.Words.{IsOfWords}
+use Rattle.flat_code.specs.Meaning.{Context, Goes}
+use Rattle.flat_code.proofs.Stored.{put_same, put_other, store_beside}
+use Rattle.flat_code.specs.declared.registers.Held.{Held}
+use Rattle.flat_code.specs.Routines.Registers.{AreBelow, OthersStay}
+use Rattle.flat_code.specs.Routines.Routine.{HasAt, Outcome, Continues, Halts, Reaches, Either, Never, unless_code}
+use Rattle.flat_code.specs.Routines.Effects.{worked, effects, AreAllowed}
+use Rattle.flat_code.specs.Routines.Metadata.{View, metadata_in, entry_registers, held_registers, IsObjectWord}
+use Rattle.flat_code.proofs.Routines.Rules.{line_on, unless, weaken}
+use Rattle.flat_code.proofs.Routines.Regions.{laid_out, spaces_follow}
+use Rattle.flat_code.proofs.Routines.Branches.{if_differ, if_same}
+use Rattle.flat_code.proofs.Routines.Words.{IsLocal}
+use Rattle.flat_code.specs.Routines.Objects.StandsFor.{Views, Keys, spell, StandsFor}
+use Rattle.flat_code.specs.Routines.Objects.Changes.{Changes, IsPut}
+use Rattle.flat_code.proofs.Routines.Objects.Changing.{word_of, changed}
+use Rattle.flat_code.proofs.Routines.Objects.Moves.{put_stands}
 use Rattle.shadow_space.specs.Form.{HasWritten, IsWriteRoutine}
 use Rattle.shadow_space.proofs.Entries.{context_of}
 use Rattle.flat_actions.specs.Actions.{AreSpacesGood, IsFor, IsHeldBy, Nowhere, Word, Pointer as InPointer, Leaves}

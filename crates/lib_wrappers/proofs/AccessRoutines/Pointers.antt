@@ -18,30 +18,31 @@ use Rattle.source_meaning.specs.State.{State as Source}
 use Rattle.source_meaning.specs.Actions.{load as source_load}
 use Rattle.source_meaning.specs.Keeping.{IsDirect}
 use Rattle.source_meaning.proofs.Holding.{direct_allowed}
-use Rattle.flat_meaning.specs.declared.instruction.RightOperand.TheVariants.{Number}
-use Rattle.flat_meaning.specs.declared.instruction.FlatInstruction.{FlatInstruction}
-use Rattle.flat_meaning.specs.declared.instruction.FlatInstruction.TheVariants.{Operate, Load, Branch, JumpForward}
-use Rattle.flat_meaning.specs.Memory.{Bytes, put, load}
-use Rattle.flat_meaning.specs.Spaces.{is_of_objects, is_allowed}
-use Rattle.flat_meaning.specs.State.{State}
-use Rattle.flat_meaning.specs.Words.{IsOfWords}
-use Rattle.flat_meaning.specs.Meaning.{Context, Goes}
-use Rattle.flat_meaning.proofs.Words.{LocalFits}
-use Rattle.flat_meaning.proofs.Stored.{put_same, put_other}
-use Rattle.flat_routines.specs.declared.registers.Entry.{Entry}
-use Rattle.flat_routines.specs.declared.registers.Held.{Held}
-use Rattle.flat_routines.specs.Registers.{IsNoneOf, AreDistinct, AreBelow, OthersStay}
-use Rattle.flat_routines.specs.Routine.{HasAt, Outcome, Continues, Halts, Reaches, Either, Never}
-use Rattle.flat_routines.specs.Effects.{worked, effects, AreAllowed}
-use Rattle.flat_routines.specs.Metadata.{View, no_metadata, metadata_in, entry_registers, held_registers, ShowsNothing}
-use Rattle.flat_routines.specs.Metadata.{IsObjectWord}
-use Rattle.flat_routines.proofs.Steps.{has_front, has_back, run_fits, has_self}
-use Rattle.flat_routines.proofs.Straight.{run_straight}
-use Rattle.flat_routines.proofs.Rules.{line_on, branch, jump_on, arrived, weaken}
-use Rattle.flat_routines.proofs.Regions.{laid_out}
-use Rattle.flat_routines.proofs.Words.{same_metadata}
-use Rattle.flat_routines.proofs.Branches.{if_equal, if_unequal}
-use Rattle.flat_routines.specs.Objects.StandsFor.{Views, Keys, spell}
+use Rattle.flat_code.specs.declared.instruction.RightOperand.TheVariants.{Number}
+use Rattle.flat_code.specs.declared.instruction.FlatInstruction.{FlatInstruction}
+use Rattle.flat_code.specs.declared.instruction.FlatInstruction.TheVariants.{Operate, Load, Branch, JumpForward}
+use Rattle.flat_code.specs.Memory.{Bytes, put, load}
+use Rattle.flat_code.specs.Spaces.{is_of_objects, is_allowed}
+use Rattle.flat_code.specs.State.{State}
+use Rattle.flat_code.specs.Words.{IsOfWords}
+use Rattle.flat_code.specs.Meaning.{Context, Goes}
+use Rattle.flat_code.proofs.Words.{LocalFits}
+use Rattle.flat_code.proofs.Stored.{put_same, put_other}
+use Rattle.flat_code.specs.declared.registers.Entry.{Entry}
+use Rattle.flat_code.specs.declared.registers.Held.{Held}
+use Rattle.flat_code.specs.Routines.Registers.{IsNoneOf, AreDistinct, AreBelow, OthersStay}
+use Rattle.flat_code.specs.Routines.Routine.{HasAt, Outcome, Continues, Halts, Reaches, Either, Never}
+use Rattle.flat_code.specs.Routines.Effects.{worked, effects, AreAllowed}
+use Rattle.flat_code.specs.Routines.Metadata.{View, no_metadata, metadata_in, entry_registers, held_registers}
+use Rattle.flat_code.specs.Routines.Metadata.{ShowsNothing}
+use Rattle.flat_code.specs.Routines.Metadata.{IsObjectWord}
+use Rattle.flat_code.proofs.Routines.Steps.{has_front, has_back, run_fits, has_self}
+use Rattle.flat_code.proofs.Routines.Straight.{run_straight}
+use Rattle.flat_code.proofs.Routines.Rules.{line_on, branch, jump_on, arrived, weaken}
+use Rattle.flat_code.proofs.Routines.Regions.{laid_out}
+use Rattle.flat_code.proofs.Routines.Words.{same_metadata}
+use Rattle.flat_code.proofs.Routines.Branches.{if_equal, if_unequal}
+use Rattle.flat_code.specs.Routines.Objects.StandsFor.{Views, Keys, spell}
 use Rattle.shadow_space.specs.Form.{HasRead, IsReadRoutine}
 use Rattle.shadow_space.proofs.Entries.{context_of}
 use Rattle.flat_actions.specs.Actions.{IsFor, IsHeldBy, Word, Pointer as InPointer, Leaves, views_of, work_of}

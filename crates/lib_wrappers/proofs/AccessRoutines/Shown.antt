@@ -10,14 +10,14 @@ use Rattle.obj_memory.specs.Access.{scalar_size, read_value}
 use Rattle.source_meaning.specs.State.{State as Source, Gives, on}
 use Rattle.source_meaning.specs.Actions.{place_or_stop, read_scalar, load}
 use Rattle.source_meaning.specs.Keeping.{IsDirect}
-use Rattle.flat_meaning.specs.Memory.{Bytes}
-use Rattle.flat_meaning.specs.Spaces.{is_of_objects}
-use Rattle.flat_meaning.specs.State.{State}
-use Rattle.flat_meaning.specs.Meaning.{Context}
-use Rattle.flat_routines.specs.Registers.{OthersStay}
-use Rattle.flat_routines.specs.Effects.{with_shown}
-use Rattle.flat_routines.specs.Metadata.{ShowsNothing}
-use Rattle.flat_routines.specs.Objects.StandsFor.{Views, Keys, StandsFor}
+use Rattle.flat_code.specs.Memory.{Bytes}
+use Rattle.flat_code.specs.Spaces.{is_of_objects}
+use Rattle.flat_code.specs.State.{State}
+use Rattle.flat_code.specs.Meaning.{Context}
+use Rattle.flat_code.specs.Routines.Registers.{OthersStay}
+use Rattle.flat_code.specs.Routines.Effects.{with_shown}
+use Rattle.flat_code.specs.Routines.Metadata.{ShowsNothing}
+use Rattle.flat_code.specs.Routines.Objects.StandsFor.{Views, Keys, StandsFor}
 use Rattle.flat_actions.specs.Actions.{IsShown, IsFor, Holder, registers_of, IsGivenIn, HasGiven}
 use Rattle.flat_actions.proofs.Standing.{good_still, keeps_same, stays_same}
 

@@ -8,15 +8,15 @@ use Rattle.source_meaning.specs.Actions.{integer}
 use Rattle.source_meaning.specs.Blocks.{pass_or_stop}
 use Rattle.source_meaning.specs.Judging.{is_within, is_live_tag, test_bounds, test_life}
 use Rattle.source_meaning.specs.Library.{argument}
-use Rattle.flat_meaning.specs.declared.instruction.RightOperand.TheVariants.{Number}
-use Rattle.flat_meaning.specs.declared.instruction.FlatInstruction.{FlatInstruction}
-use Rattle.flat_meaning.specs.Memory.{Bytes}
-use Rattle.flat_meaning.specs.State.{State}
-use Rattle.flat_meaning.specs.Meaning.{Goes}
-use Rattle.flat_routines.specs.declared.registers.Held.{Held}
-use Rattle.flat_routines.specs.Routine.{Outcome, Continues, Halts}
-use Rattle.flat_routines.proofs.Rules.{weaken}
-use Rattle.flat_routines.specs.Objects.StandsFor.{Views, Keys}
+use Rattle.flat_code.specs.declared.instruction.RightOperand.TheVariants.{Number}
+use Rattle.flat_code.specs.declared.instruction.FlatInstruction.{FlatInstruction}
+use Rattle.flat_code.specs.Memory.{Bytes}
+use Rattle.flat_code.specs.State.{State}
+use Rattle.flat_code.specs.Meaning.{Goes}
+use Rattle.flat_code.specs.declared.registers.Held.{Held}
+use Rattle.flat_code.specs.Routines.Routine.{Outcome, Continues, Halts}
+use Rattle.flat_code.proofs.Routines.Rules.{weaken}
+use Rattle.flat_code.specs.Routines.Objects.StandsFor.{Views, Keys}
 use Rattle.flat_actions.specs.Actions.{Basis, IsFor, Nowhere, Pointer, Leaves, IsAction, IsActionIn, context_in}
 use Rattle.flat_actions.specs.Actions.{views_of}
 use Rattle.flat_actions.specs.Actions.{work_of}

@@ -23,26 +23,26 @@ use Rattle.source_meaning.specs.State.{State as Source, Outcome as Completed, Gi
 use Rattle.source_meaning.specs.Acting.{state_of}
 use Rattle.source_meaning.specs.Actions.{integer}
 use Rattle.source_meaning.specs.Heap.{block_place, allocate}
-use Rattle.flat_meaning.specs.declared.instruction.RightOperand.TheVariants.{Number}
-use Rattle.flat_meaning.specs.declared.instruction.FlatInstruction.{FlatInstruction}
-use Rattle.flat_meaning.specs.declared.instruction.FlatInstruction.TheVariants.{End}
-use Rattle.flat_meaning.specs.Memory.{Bytes, put}
-use Rattle.flat_meaning.specs.State.{State}
-use Rattle.flat_meaning.specs.Words.{IsOfWords}
-use Rattle.flat_meaning.specs.Meaning.{Context, Goes}
-use Rattle.flat_routines.specs.declared.registers.Held.{Held}
-use Rattle.flat_routines.specs.Registers.{AreDistinct, AreBelow, IsNoneOf, OthersStay}
-use Rattle.flat_routines.specs.Local.{counted}
-use Rattle.flat_routines.specs.Routine.{HasAt, Outcome, Reaches, Does, Never, unless_code}
-use Rattle.flat_routines.specs.Effects.{worked}
-use Rattle.flat_routines.specs.Metadata.{View, held_registers, ShowsNothing}
-use Rattle.flat_routines.proofs.Steps.{has_front, has_back}
-use Rattle.flat_routines.proofs.Rules.{next, ended, arrived, weaken}
-use Rattle.flat_routines.proofs.Distinct.{AreRegisters}
-use Rattle.flat_routines.proofs.Words.{same_metadata, IsLocal}
-use Rattle.flat_routines.proofs.Branches.{are_equal, are_not_equal, differ, do_not_differ}
-use Rattle.flat_routines.proofs.Showing.{shows_both}
-use Rattle.flat_routines.specs.Objects.StandsFor.{Views, Keys, Spells, IsTable, StandsFor}
+use Rattle.flat_code.specs.declared.instruction.RightOperand.TheVariants.{Number}
+use Rattle.flat_code.specs.declared.instruction.FlatInstruction.{FlatInstruction}
+use Rattle.flat_code.specs.declared.instruction.FlatInstruction.TheVariants.{End}
+use Rattle.flat_code.specs.Memory.{Bytes, put}
+use Rattle.flat_code.specs.State.{State}
+use Rattle.flat_code.specs.Words.{IsOfWords}
+use Rattle.flat_code.specs.Meaning.{Context, Goes}
+use Rattle.flat_code.specs.declared.registers.Held.{Held}
+use Rattle.flat_code.specs.Routines.Registers.{AreDistinct, AreBelow, IsNoneOf, OthersStay}
+use Rattle.flat_code.specs.Routines.Local.{counted}
+use Rattle.flat_code.specs.Routines.Routine.{HasAt, Outcome, Reaches, Does, Never, unless_code}
+use Rattle.flat_code.specs.Routines.Effects.{worked}
+use Rattle.flat_code.specs.Routines.Metadata.{View, held_registers, ShowsNothing}
+use Rattle.flat_code.proofs.Routines.Steps.{has_front, has_back}
+use Rattle.flat_code.proofs.Routines.Rules.{next, ended, arrived, weaken}
+use Rattle.flat_code.proofs.Routines.Distinct.{AreRegisters}
+use Rattle.flat_code.proofs.Routines.Words.{same_metadata, IsLocal}
+use Rattle.flat_code.proofs.Routines.Branches.{are_equal, are_not_equal, differ, do_not_differ}
+use Rattle.flat_code.proofs.Routines.Showing.{shows_both}
+use Rattle.flat_code.specs.Routines.Objects.StandsFor.{Views, Keys, Spells, IsTable, StandsFor}
 use Rattle.shadow_space.proofs.Entries.{context_of, agrees_shows, agrees_memory}
 use Rattle.lock_space.specs.Locks.{key_counter}
 use Rattle.lock_space.specs.Routines.{HasFresh, CanFresh, IsFreshRoutine}
@@ -54,7 +54,7 @@ use Rattle.heap_space.specs.Routines.{IsPlacedIn, place_of, IsPlaceRoutine}
 use Rattle.heap_space.proofs.Lists.{rows_length, too_many}
 use Rattle.heap_space.proofs.Counting.{rows_counted}
 use Rattle.heap_space.proofs.Objects.{place_by_rows}
-use Rattle.flat_routines.proofs.Regions.{spaces_follow}
+use Rattle.flat_code.proofs.Routines.Regions.{spaces_follow}
 use Rattle.heap_space.proofs.Regions.{table_laid_out, last_of_heap}
 use Rattle.flat_actions.specs.Actions.{AreSpacesGood, IsFor, Pointer, Leaves, HasGiven, HasEnded, views_of, work_of}
 use Rattle.flat_actions.proofs.Standing.{shown_still, given_still, ended_still}
@@ -65,9 +65,9 @@ use Rattle.lib_wrappers.specs.AllocatingRoutines.Allocating.{IsAllocateRoutine, 
 use Rattle.lib_wrappers.specs.AllocatingRoutines.Allocating.{whole_bounds}
 use Rattle.lib_wrappers.specs.AllocatingRoutines.Allocating.{make_code}
 use Rattle.lib_wrappers.specs.AllocatingRoutines.Allocating.{malloc_code}
-use Rattle.flat_routines.proofs.Spaces.Quiet.{shows_worked}
+use Rattle.flat_code.proofs.Routines.Spaces.Quiet.{shows_worked}
 use Rattle.lib_wrappers.proofs.AllocatingRoutines.Stretches.{IsDone, stretch_on, goes_past, goes_into}
-use Rattle.flat_routines.proofs.Spaces.Quiet.{worked_words}
+use Rattle.flat_code.proofs.Routines.Spaces.Quiet.{worked_words}
 use Rattle.lib_wrappers.proofs.AllocatingRoutines.FreeLocks.{free_for_a_block}
 use Rattle.lib_wrappers.proofs.AllocatingRoutines.BlockBirth.{LiesInHeap, place_lies, held_after, keys_keep}
 use Rattle.lib_wrappers.proofs.AllocatingRoutines.BlockBirth.{block_born}

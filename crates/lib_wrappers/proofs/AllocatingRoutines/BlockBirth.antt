@@ -18,13 +18,13 @@ use Rattle.obj_memory.proofs.Placing.{least_place_found, room_holds}
 use Rattle.obj_memory.proofs.Soundness.{sound_new}
 use Rattle.source_meaning.specs.Keeping.{region_of, ArePlaced}
 use Rattle.source_meaning.proofs.Holding.{length-new}
-use Rattle.flat_meaning.specs.Memory.{Bytes, load}
-use Rattle.flat_routines.specs.Metadata.{View}
-use Rattle.flat_routines.proofs.Regions.{laid_out}
-use Rattle.flat_routines.specs.Objects.StandsFor.{Views, Keys, BlockRow, IsKeyed, IsRowOf, IsTable, StandsFor}
-use Rattle.flat_routines.specs.Objects.Changes.{IsFresh, AreBorn}
-use Rattle.flat_routines.proofs.Objects.Changing.{live_is_made, word_of, beside_bytes}
-use Rattle.flat_routines.proofs.Objects.Lives.{born}
+use Rattle.flat_code.specs.Memory.{Bytes, load}
+use Rattle.flat_code.specs.Routines.Metadata.{View}
+use Rattle.flat_code.proofs.Routines.Regions.{laid_out}
+use Rattle.flat_code.specs.Routines.Objects.StandsFor.{Views, Keys, BlockRow, IsKeyed, IsRowOf, IsTable, StandsFor}
+use Rattle.flat_code.specs.Routines.Objects.Changes.{IsFresh, AreBorn}
+use Rattle.flat_code.proofs.Routines.Objects.Changing.{live_is_made, word_of, beside_bytes}
+use Rattle.flat_code.proofs.Routines.Objects.Lives.{born}
 use Rattle.heap_space.specs.Rows.{AreInOrder, with_row}
 use Rattle.heap_space.specs.Table.{block_rows}
 use Rattle.heap_space.proofs.Counting.{live_block}

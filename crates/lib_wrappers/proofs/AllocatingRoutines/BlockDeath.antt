@@ -11,13 +11,13 @@ use Rattle.obj_memory.specs.Sound.{AreBeside}
 use Rattle.obj_memory.proofs.Making.{dead_is_dead, dead_other, dead_object, disjoint_dead}
 use Rattle.obj_memory.proofs.Soundness.{sound_dead}
 use Rattle.source_meaning.proofs.Holding.{length-dead}
-use Rattle.flat_meaning.specs.Memory.{Bytes, load}
-use Rattle.flat_routines.specs.Metadata.{View}
-use Rattle.flat_routines.proofs.Regions.{laid_out}
-use Rattle.flat_routines.specs.Objects.StandsFor.{Views, Keys, BlockRow, IsRowOf, IsTable, global_lock, StandsFor}
-use Rattle.flat_routines.specs.Objects.Changes.{AreDead}
-use Rattle.flat_routines.proofs.Objects.Changing.{live_is_made, word_of}
-use Rattle.flat_routines.proofs.Objects.Lives.{died}
+use Rattle.flat_code.specs.Memory.{Bytes, load}
+use Rattle.flat_code.specs.Routines.Metadata.{View}
+use Rattle.flat_code.proofs.Routines.Regions.{laid_out}
+use Rattle.flat_code.specs.Routines.Objects.StandsFor.{Views, Keys, BlockRow, IsRowOf, IsTable, global_lock, StandsFor}
+use Rattle.flat_code.specs.Routines.Objects.Changes.{AreDead}
+use Rattle.flat_code.proofs.Routines.Objects.Changing.{live_is_made, word_of}
+use Rattle.flat_code.proofs.Routines.Objects.Lives.{died}
 use Rattle.heap_space.specs.Rows.{AreInOrder}
 use Rattle.heap_space.specs.Table.{block_rows}
 use Rattle.flat_actions.specs.Actions.{AreSpacesGood, StaysElsewhere, views_of}

@@ -11,13 +11,13 @@ use Rattle.source_meaning.specs.State.{State as Source, Home, NoObject, InObject
 use Rattle.source_meaning.specs.Blocks.{without_homes}
 use Rattle.source_meaning.proofs.Holding.{length-dead}
 use Rattle.source_meaning.proofs.Laying.{without_sound}
-use Rattle.flat_meaning.specs.Memory.{Bytes, load}
-use Rattle.flat_routines.specs.Metadata.{View, IsObjectWord}
-use Rattle.flat_routines.proofs.Regions.{laid_out}
-use Rattle.flat_routines.specs.Objects.StandsFor.{Views, Keys, IsLock, global_lock, IsTable, StandsFor}
-use Rattle.flat_routines.specs.Objects.Changes.{AreDead}
-use Rattle.flat_routines.proofs.Objects.Changing.{word_of}
-use Rattle.flat_routines.proofs.Objects.Lives.{died}
+use Rattle.flat_code.specs.Memory.{Bytes, load}
+use Rattle.flat_code.specs.Routines.Metadata.{View, IsObjectWord}
+use Rattle.flat_code.proofs.Routines.Regions.{laid_out}
+use Rattle.flat_code.specs.Routines.Objects.StandsFor.{Views, Keys, IsLock, global_lock, IsTable, StandsFor}
+use Rattle.flat_code.specs.Routines.Objects.Changes.{AreDead}
+use Rattle.flat_code.proofs.Routines.Objects.Changing.{word_of}
+use Rattle.flat_code.proofs.Routines.Objects.Lives.{died}
 use Rattle.lock_space.specs.Locks.{key_counter}
 use Rattle.lock_space.specs.Routines.{OtherLocksStay}
 use Rattle.heap_space.specs.Table.{block_rows}

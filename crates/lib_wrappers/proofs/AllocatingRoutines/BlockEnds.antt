@@ -6,19 +6,19 @@ use Rattle.addr_map.specs.Places.{MapSizes, AreMapped, spaces_begin, region_star
 use Rattle.obj_memory.specs.declared.object.Storage.TheVariants.{Static, Allocated}
 use Rattle.obj_memory.specs.Objects.{object_at}
 use Rattle.source_meaning.specs.State.{State as Source}
-use Rattle.flat_meaning.specs.declared.instruction.FlatInstruction.{FlatInstruction}
-use Rattle.flat_meaning.specs.Memory.{Bytes, load}
-use Rattle.flat_meaning.specs.State.{State}
-use Rattle.flat_meaning.specs.Words.{IsOfWords}
-use Rattle.flat_meaning.specs.Meaning.{Context, Goes}
-use Rattle.flat_routines.specs.Registers.{AreBelow, OthersStay}
-use Rattle.flat_routines.specs.Routine.{HasAt, Outcome, Reaches, Never}
-use Rattle.flat_routines.specs.Metadata.{View, ShowsNothing}
-use Rattle.flat_routines.proofs.Rules.{next}
-use Rattle.flat_routines.proofs.Showing.{shows_both}
-use Rattle.flat_routines.proofs.Words.{IsLocal}
-use Rattle.flat_routines.specs.Objects.StandsFor.{Views, Keys, IsLock, global_lock}
-use Rattle.flat_routines.proofs.Objects.Changing.{live_is_made}
+use Rattle.flat_code.specs.declared.instruction.FlatInstruction.{FlatInstruction}
+use Rattle.flat_code.specs.Memory.{Bytes, load}
+use Rattle.flat_code.specs.State.{State}
+use Rattle.flat_code.specs.Words.{IsOfWords}
+use Rattle.flat_code.specs.Meaning.{Context, Goes}
+use Rattle.flat_code.specs.Routines.Registers.{AreBelow, OthersStay}
+use Rattle.flat_code.specs.Routines.Routine.{HasAt, Outcome, Reaches, Never}
+use Rattle.flat_code.specs.Routines.Metadata.{View, ShowsNothing}
+use Rattle.flat_code.proofs.Routines.Rules.{next}
+use Rattle.flat_code.proofs.Routines.Showing.{shows_both}
+use Rattle.flat_code.proofs.Routines.Words.{IsLocal}
+use Rattle.flat_code.specs.Routines.Objects.StandsFor.{Views, Keys, IsLock, global_lock}
+use Rattle.flat_code.proofs.Routines.Objects.Changing.{live_is_made}
 use Rattle.shadow_space.proofs.Entries.{context_of}
 use Rattle.lock_space.specs.Routines.{HasReleased, CanRelease, IsReleaseRoutine}
 use Rattle.lock_space.proofs.Spaces.{locks_laid_out}

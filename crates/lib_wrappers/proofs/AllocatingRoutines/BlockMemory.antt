@@ -2,12 +2,12 @@
 use Rattle.std.proofs.Common.{◌≡◌, ℕ, suc, ◌+◌, inl, inr, sym, ap, ◌∙◌, arith}
 use Rattle.addr_map.specs.declared.region.Region.TheVariants.{Locks, Blocks}
 use Rattle.addr_map.specs.Places.{MapSizes, AreMapped, spaces_begin, region_start}
-use Rattle.flat_meaning.specs.Memory.{Bytes, load}
-use Rattle.flat_routines.specs.Metadata.{View, KeepsShadow}
-use Rattle.flat_routines.proofs.Regions.{DoSpacesFollow, spaces_follow}
-use Rattle.flat_routines.proofs.Words.{IsLocal}
-use Rattle.flat_routines.specs.Objects.StandsFor.{IsLock}
-use Rattle.flat_routines.proofs.Objects.Changing.{global_is_lock}
+use Rattle.flat_code.specs.Memory.{Bytes, load}
+use Rattle.flat_code.specs.Routines.Metadata.{View, KeepsShadow}
+use Rattle.flat_code.proofs.Routines.Regions.{DoSpacesFollow, spaces_follow}
+use Rattle.flat_code.proofs.Routines.Words.{IsLocal}
+use Rattle.flat_code.specs.Routines.Objects.StandsFor.{IsLock}
+use Rattle.flat_code.proofs.Routines.Objects.Changing.{global_is_lock}
 use Rattle.lock_space.specs.Locks.{key_counter, AreLocksGood, KeepsButLocks, KeepsLocks}
 use Rattle.lock_space.specs.Routines.{OtherLocksStay}
 use Rattle.lock_space.proofs.Spaces.{locks_laid_out}

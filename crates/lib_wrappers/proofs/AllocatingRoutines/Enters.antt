@@ -15,26 +15,26 @@ use Rattle.c_tree.specs.declared.program.Variable.{Variable}
 use Rattle.source_meaning.specs.State.{State as Source, Outcome as Completed, Gives, Ended, Setting}
 use Rattle.source_meaning.specs.Acting.{state_of}
 use Rattle.source_meaning.specs.Blocks.{objects_end, Block, enter_block}
-use Rattle.flat_meaning.specs.declared.instruction.RightOperand.TheVariants.{Register, Number}
-use Rattle.flat_meaning.specs.declared.instruction.FlatInstruction.{FlatInstruction}
-use Rattle.flat_meaning.specs.declared.instruction.FlatInstruction.TheVariants.{End}
-use Rattle.flat_meaning.specs.Memory.{Bytes, put}
-use Rattle.flat_meaning.specs.State.{State}
-use Rattle.flat_meaning.specs.Words.{IsOfWords}
-use Rattle.flat_meaning.specs.Meaning.{Context, Goes}
-use Rattle.flat_routines.specs.Registers.{AreDistinct, AreBelow, AreNoneOf, OthersStay}
-use Rattle.flat_routines.specs.Local.{counted}
-use Rattle.flat_routines.specs.Routine.{HasAt, Outcome, Reaches, Never}
-use Rattle.flat_routines.specs.Effects.{worked}
-use Rattle.flat_routines.specs.Renaming.{through}
-use Rattle.flat_routines.specs.Metadata.{View, ShowsNothing}
-use Rattle.flat_routines.proofs.Steps.{has_front, has_back}
-use Rattle.flat_routines.proofs.Rules.{next, ended, arrived, weaken}
-use Rattle.flat_routines.proofs.Distinct.{AreRegisters, register_of}
-use Rattle.flat_routines.proofs.Branches.{not_below, is_below, differ, do_not_differ}
-use Rattle.flat_routines.proofs.Showing.{shows_both}
-use Rattle.flat_routines.proofs.Words.{IsLocal}
-use Rattle.flat_routines.specs.Objects.StandsFor.{Views, Keys, StandsFor}
+use Rattle.flat_code.specs.declared.instruction.RightOperand.TheVariants.{Register, Number}
+use Rattle.flat_code.specs.declared.instruction.FlatInstruction.{FlatInstruction}
+use Rattle.flat_code.specs.declared.instruction.FlatInstruction.TheVariants.{End}
+use Rattle.flat_code.specs.Memory.{Bytes, put}
+use Rattle.flat_code.specs.State.{State}
+use Rattle.flat_code.specs.Words.{IsOfWords}
+use Rattle.flat_code.specs.Meaning.{Context, Goes}
+use Rattle.flat_code.specs.Routines.Registers.{AreDistinct, AreBelow, AreNoneOf, OthersStay}
+use Rattle.flat_code.specs.Routines.Local.{counted}
+use Rattle.flat_code.specs.Routines.Routine.{HasAt, Outcome, Reaches, Never}
+use Rattle.flat_code.specs.Routines.Effects.{worked}
+use Rattle.flat_code.specs.Routines.Renaming.{through}
+use Rattle.flat_code.specs.Routines.Metadata.{View, ShowsNothing}
+use Rattle.flat_code.proofs.Routines.Steps.{has_front, has_back}
+use Rattle.flat_code.proofs.Routines.Rules.{next, ended, arrived, weaken}
+use Rattle.flat_code.proofs.Routines.Distinct.{AreRegisters, register_of}
+use Rattle.flat_code.proofs.Routines.Branches.{not_below, is_below, differ, do_not_differ}
+use Rattle.flat_code.proofs.Routines.Showing.{shows_both}
+use Rattle.flat_code.proofs.Routines.Words.{IsLocal}
+use Rattle.flat_code.specs.Routines.Objects.StandsFor.{Views, Keys, StandsFor}
 use Rattle.shadow_space.proofs.Entries.{context_of, agrees_shows, agrees_memory}
 use Rattle.lock_space.specs.Locks.{key_counter}
 use Rattle.lock_space.specs.Routines.{HasFresh, CanFresh, IsFreshRoutine}
@@ -44,7 +44,7 @@ use Rattle.heap_space.proofs.Lists.{rows_length}
 use Rattle.flat_actions.specs.Actions.{AreSpacesGood, IsFor, HasEnded, views_of}
 use Rattle.flat_actions.proofs.Standing.{unwritten_same}
 use Rattle.flat_actions.proofs.Standing.{shown_still, ended_still}
-use Rattle.flat_routines.proofs.Spaces.Quiet.{shows_worked, worked_words}
+use Rattle.flat_code.proofs.Routines.Spaces.Quiet.{shows_worked, worked_words}
 use Rattle.lib_wrappers.specs.declared.allocating.entering.EntryRegisters.{EntryRegisters}
 use Rattle.lib_wrappers.specs.AllocatingRoutines.Zeroing.{IsZeroed, HasZeroed, IsZeroRoutine}
 use Rattle.lib_wrappers.specs.AllocatingRoutines.Allocating.{keys_code, key_test}

@@ -14,13 +14,13 @@ use Rattle.source_meaning.specs.State.{State as Source}
 use Rattle.source_meaning.specs.Blocks.{objects_end, has_objects}
 use Rattle.source_meaning.specs.Keeping.{AreSeparate}
 use Rattle.source_meaning.proofs.Separating.{behind_stack}
-use Rattle.flat_meaning.specs.Memory.{Bytes}
-use Rattle.flat_routines.specs.Metadata.{View, no_metadata}
-use Rattle.flat_routines.proofs.Regions.{laid_out}
-use Rattle.flat_routines.specs.Objects.StandsFor.{Views, Keys, BlockRow, no_row, IsRowOf, IsTable, StandsFor}
-use Rattle.flat_routines.specs.Objects.Changes.{IsFresh, AreBorn}
-use Rattle.flat_routines.proofs.Objects.Changing.{live_is_made, word_of}
-use Rattle.flat_routines.proofs.Objects.Lives.{born}
+use Rattle.flat_code.specs.Memory.{Bytes}
+use Rattle.flat_code.specs.Routines.Metadata.{View, no_metadata}
+use Rattle.flat_code.proofs.Routines.Regions.{laid_out}
+use Rattle.flat_code.specs.Routines.Objects.StandsFor.{Views, Keys, BlockRow, no_row, IsRowOf, IsTable, StandsFor}
+use Rattle.flat_code.specs.Routines.Objects.Changes.{IsFresh, AreBorn}
+use Rattle.flat_code.proofs.Routines.Objects.Changing.{live_is_made, word_of}
+use Rattle.flat_code.proofs.Routines.Objects.Lives.{born}
 use Rattle.heap_space.specs.Table.{block_rows}
 use Rattle.flat_actions.specs.Actions.{views_of}
 use Rattle.lib_wrappers.specs.AllocatingRoutines.Births.{with_key, IsRangeMade}

@@ -8,9 +8,9 @@ use Rattle.obj_memory.specs.declared.object.Storage.TheVariants.{Static, Automat
 use Rattle.obj_memory.specs.Objects.{ObjectState, Objects, object_at}
 use Rattle.obj_memory.specs.Heap.{is_allocated}
 use Rattle.source_meaning.specs.Heap.{is_block_start}
-use Rattle.flat_meaning.specs.Memory.{Bytes}
-use Rattle.flat_routines.specs.Objects.StandsFor.{Views, Keys, BlockRow, no_row, StandsFor}
-use Rattle.flat_routines.proofs.Objects.Changing.{live_is_made}
+use Rattle.flat_code.specs.Memory.{Bytes}
+use Rattle.flat_code.specs.Routines.Objects.StandsFor.{Views, Keys, BlockRow, no_row, StandsFor}
+use Rattle.flat_code.proofs.Routines.Objects.Changing.{live_is_made}
 use Rattle.heap_space.specs.Rows.{HasStart, size_of}
 use Rattle.lib_wrappers.proofs.AllocatingRoutines.TableRows.{has_start}
 

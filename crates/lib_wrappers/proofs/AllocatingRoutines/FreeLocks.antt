@@ -11,10 +11,10 @@ use Rattle.obj_memory.specs.Objects.{Objects, object_at}
 use Rattle.obj_memory.specs.Heap.{object_room}
 use Rattle.obj_memory.specs.Sound.{AreBeside}
 use Rattle.source_meaning.specs.Keeping.{region_of, ArePlaced}
-use Rattle.flat_meaning.specs.Memory.{Bytes, load}
-use Rattle.flat_routines.specs.Objects.StandsFor.{Views, Keys, no_row, IsLock, global_lock, IsRowOf, StandsFor}
-use Rattle.flat_routines.proofs.Objects.Changing.{live_is_made}
-use Rattle.flat_routines.proofs.Spaces.Few.{at_most_of}
+use Rattle.flat_code.specs.Memory.{Bytes, load}
+use Rattle.flat_code.specs.Routines.Objects.StandsFor.{Views, Keys, no_row, IsLock, global_lock, IsRowOf, StandsFor}
+use Rattle.flat_code.proofs.Routines.Objects.Changing.{live_is_made}
+use Rattle.flat_code.proofs.Routines.Spaces.Few.{at_most_of}
 use Rattle.lock_space.specs.Locks.{lock_total, used_locks, first_lock, listed_lock, IsFree, AreLocksGood}
 use Rattle.lock_space.proofs.Spaces.{locks_laid_out}
 use Rattle.lib_wrappers.specs.AllocatingRoutines.Premises.{HaveBytes}

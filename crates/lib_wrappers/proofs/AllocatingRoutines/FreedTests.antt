@@ -17,26 +17,26 @@ use Rattle.obj_memory.specs.Objects.{object_at}
 use Rattle.obj_memory.specs.Sound.{IsSoundTag}
 use Rattle.source_meaning.specs.State.{State as Source, Gives, Ended}
 use Rattle.source_meaning.specs.Heap.{is_block_start, freed}
-use Rattle.flat_meaning.specs.declared.instruction.RightOperand.TheVariants.{Register, Number}
-use Rattle.flat_meaning.specs.declared.instruction.FlatInstruction.{FlatInstruction}
-use Rattle.flat_meaning.specs.declared.instruction.FlatInstruction.TheVariants.{Load, End}
-use Rattle.flat_meaning.specs.Memory.{Bytes, put, load}
-use Rattle.flat_meaning.specs.Spaces.{is_allowed}
-use Rattle.flat_meaning.specs.State.{State}
-use Rattle.flat_meaning.specs.Words.{IsOfWords}
-use Rattle.flat_meaning.specs.Meaning.{Context, Goes}
-use Rattle.flat_routines.specs.declared.registers.Held.{Held}
-use Rattle.flat_routines.specs.Registers.{AreBelow, OthersStay}
-use Rattle.flat_routines.specs.Local.{counted}
-use Rattle.flat_routines.specs.Routine.{HasAt, Outcome, Halts, Reaches, Never}
-use Rattle.flat_routines.specs.Effects.{worked}
-use Rattle.flat_routines.specs.Metadata.{View, held_registers, ShowsNothing}
-use Rattle.flat_routines.proofs.Steps.{has_front, has_back}
-use Rattle.flat_routines.proofs.Rules.{next, ended, weaken}
-use Rattle.flat_routines.proofs.Distinct.{AreRegisters}
-use Rattle.flat_routines.proofs.Branches.{are_equal, are_not_equal, differ, do_not_differ}
-use Rattle.flat_routines.proofs.Showing.{shows_both}
-use Rattle.flat_routines.specs.Objects.StandsFor.{Views, Keys, spell, IsLock}
+use Rattle.flat_code.specs.declared.instruction.RightOperand.TheVariants.{Register, Number}
+use Rattle.flat_code.specs.declared.instruction.FlatInstruction.{FlatInstruction}
+use Rattle.flat_code.specs.declared.instruction.FlatInstruction.TheVariants.{Load, End}
+use Rattle.flat_code.specs.Memory.{Bytes, put, load}
+use Rattle.flat_code.specs.Spaces.{is_allowed}
+use Rattle.flat_code.specs.State.{State}
+use Rattle.flat_code.specs.Words.{IsOfWords}
+use Rattle.flat_code.specs.Meaning.{Context, Goes}
+use Rattle.flat_code.specs.declared.registers.Held.{Held}
+use Rattle.flat_code.specs.Routines.Registers.{AreBelow, OthersStay}
+use Rattle.flat_code.specs.Routines.Local.{counted}
+use Rattle.flat_code.specs.Routines.Routine.{HasAt, Outcome, Halts, Reaches, Never}
+use Rattle.flat_code.specs.Routines.Effects.{worked}
+use Rattle.flat_code.specs.Routines.Metadata.{View, held_registers, ShowsNothing}
+use Rattle.flat_code.proofs.Routines.Steps.{has_front, has_back}
+use Rattle.flat_code.proofs.Routines.Rules.{next, ended, weaken}
+use Rattle.flat_code.proofs.Routines.Distinct.{AreRegisters}
+use Rattle.flat_code.proofs.Routines.Branches.{are_equal, are_not_equal, differ, do_not_differ}
+use Rattle.flat_code.proofs.Routines.Showing.{shows_both}
+use Rattle.flat_code.specs.Routines.Objects.StandsFor.{Views, Keys, spell, IsLock}
 use Rattle.shadow_space.proofs.Entries.{context_of, agrees_shows, agrees_memory}
 use Rattle.lock_space.proofs.Spaces.{locks_laid_out, allowed_at}
 use Rattle.heap_space.specs.Rows.{HasStart, size_of}
@@ -46,9 +46,9 @@ use Rattle.flat_actions.specs.Actions.{ChangesNothing}
 use Rattle.flat_actions.specs.Actions.{IsFor, Pointer, IsHeldBy}
 use Rattle.flat_actions.specs.Actions.{views_of}
 use Rattle.lib_wrappers.specs.AllocatingRoutines.Freeing.{life_test, found_test}
-use Rattle.flat_routines.proofs.Spaces.Quiet.{shows_worked}
+use Rattle.flat_code.proofs.Routines.Spaces.Quiet.{shows_worked}
 use Rattle.lib_wrappers.proofs.AllocatingRoutines.Stretches.{IsDone, stretch_on, goes_past, goes_into}
-use Rattle.flat_routines.proofs.Spaces.Quiet.{worked_words}
+use Rattle.flat_code.proofs.Routines.Spaces.Quiet.{worked_words}
 use Rattle.lib_wrappers.proofs.AllocatingRoutines.FoundRows.{parts_of_start, found_is_start, not_found_is_none}
 use Rattle.lib_wrappers.proofs.AllocatingRoutines.SourceBlocks.{sought_in}
 use Rattle.lib_wrappers.proofs.AllocatingRoutines.SourceFrees.{freed_untagged, freed_function, freed_dead}

@@ -7,7 +7,7 @@ use Rattle.obj_memory.specs.Objects.{ObjectState, Objects, object_at, new_object
 use Rattle.obj_memory.specs.Sound.{KeepsObjects}
 use Rattle.obj_memory.proofs.Making.{new_last, new_other, dead_is_dead, dead_other}
 use Rattle.source_meaning.proofs.Holding.{length-new}
-use Rattle.flat_routines.proofs.Objects.Changing.{live_is_made}
+use Rattle.flat_code.proofs.Routines.Objects.Changing.{live_is_made}
 use Rattle.lib_wrappers.specs.AllocatingRoutines.Premises.{HaveBytes}
 
 -- what is said of one object

@@ -2,15 +2,15 @@
 use Rattle.std.proofs.Common.{ℕ, ◌+◌, inl, inr, List, length, arith}
 use Rattle.addr_map.specs.Places.{MapSizes, AreMapped}
 use Rattle.source_meaning.specs.Blocks.{leave_block}
-use Rattle.flat_meaning.specs.declared.instruction.FlatInstruction.{FlatInstruction}
-use Rattle.flat_meaning.specs.Memory.{Bytes}
-use Rattle.flat_meaning.specs.State.{State}
-use Rattle.flat_meaning.specs.Meaning.{Goes}
-use Rattle.flat_routines.specs.Routine.{Outcome, Continues, Halts, Either, Never}
-use Rattle.flat_routines.specs.Metadata.{View}
-use Rattle.flat_routines.proofs.Rules.{weaken}
-use Rattle.flat_routines.proofs.Words.{IsLocal}
-use Rattle.flat_routines.proofs.Regions.{spaces_follow}
+use Rattle.flat_code.specs.declared.instruction.FlatInstruction.{FlatInstruction}
+use Rattle.flat_code.specs.Memory.{Bytes}
+use Rattle.flat_code.specs.State.{State}
+use Rattle.flat_code.specs.Meaning.{Goes}
+use Rattle.flat_code.specs.Routines.Routine.{Outcome, Continues, Halts, Either, Never}
+use Rattle.flat_code.specs.Routines.Metadata.{View}
+use Rattle.flat_code.proofs.Routines.Rules.{weaken}
+use Rattle.flat_code.proofs.Routines.Words.{IsLocal}
+use Rattle.flat_code.proofs.Routines.Regions.{spaces_follow}
 use Rattle.shadow_space.proofs.Entries.{context_of}
 use Rattle.lock_space.specs.Routines.{HasReleased, IsReleaseRoutine}
 use Rattle.heap_space.proofs.Local.{rows_kept}

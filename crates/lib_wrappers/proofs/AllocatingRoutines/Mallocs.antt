@@ -4,14 +4,14 @@ use Rattle.addr_map.specs.Places.{MapSizes}
 use Rattle.obj_memory.specs.declared.value.Value.{Value}
 use Rattle.source_meaning.specs.Heap.{malloc}
 use Rattle.source_meaning.specs.Library.{argument}
-use Rattle.flat_meaning.specs.declared.instruction.FlatInstruction.{FlatInstruction}
-use Rattle.flat_meaning.specs.Memory.{Bytes}
-use Rattle.flat_meaning.specs.State.{State}
-use Rattle.flat_meaning.specs.Words.{IsOfWords}
-use Rattle.flat_meaning.specs.Meaning.{Goes}
-use Rattle.flat_routines.specs.declared.registers.Held.{Held}
-use Rattle.flat_routines.specs.Routine.{HasAt, Reaches}
-use Rattle.flat_routines.specs.Metadata.{View}
+use Rattle.flat_code.specs.declared.instruction.FlatInstruction.{FlatInstruction}
+use Rattle.flat_code.specs.Memory.{Bytes}
+use Rattle.flat_code.specs.State.{State}
+use Rattle.flat_code.specs.Words.{IsOfWords}
+use Rattle.flat_code.specs.Meaning.{Goes}
+use Rattle.flat_code.specs.declared.registers.Held.{Held}
+use Rattle.flat_code.specs.Routines.Routine.{HasAt, Reaches}
+use Rattle.flat_code.specs.Routines.Metadata.{View}
 use Rattle.flat_actions.specs.Actions.{IsFor, Word, Pointer, AreHeldBy, Leaves, views_of, context_in, work_of}
 use Rattle.flat_actions.specs.Actions.{runtime_basis}
 use Rattle.lib_wrappers.specs.AllocatingRoutines.Premises.{AreStanding}

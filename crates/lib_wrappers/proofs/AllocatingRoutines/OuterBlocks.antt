@@ -5,9 +5,9 @@ use Rattle.std.proofs.lemmas.Bool.{cases_Bool, cases_lt}
 use Rattle.obj_memory.specs.declared.object.Storage.TheVariants.{Static, Automatic}
 use Rattle.obj_memory.specs.Objects.{object_at}
 use Rattle.source_meaning.specs.State.{State as Source, Home}
-use Rattle.flat_meaning.specs.Memory.{Bytes, load}
-use Rattle.flat_routines.specs.Objects.StandsFor.{Views, Keys, StandsFor}
-use Rattle.flat_routines.proofs.Objects.Changing.{live_is_made}
+use Rattle.flat_code.specs.Memory.{Bytes, load}
+use Rattle.flat_code.specs.Routines.Objects.StandsFor.{Views, Keys, StandsFor}
+use Rattle.flat_code.proofs.Routines.Objects.Changing.{live_is_made}
 use Rattle.lib_wrappers.specs.AllocatingRoutines.Entering.{IsHomeOf, AreOfLock, AreNewlyKeyed}
 
 module _ (g : Views) (k k' : Keys) (x x' : Source) (homes : List Home) (lock : ℕ) (m m' : Bytes)

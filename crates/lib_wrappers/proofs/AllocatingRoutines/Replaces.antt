@@ -14,29 +14,29 @@ use Rattle.obj_memory.proofs.Making.{new_last, new_other, dead_other}
 use Rattle.obj_memory.proofs.Keeping.{keeps_moved}
 use Rattle.source_meaning.specs.State.{State as Source}
 use Rattle.source_meaning.proofs.Holding.{length-new}
-use Rattle.flat_meaning.specs.declared.instruction.RightOperand.TheVariants.{Register}
-use Rattle.flat_meaning.specs.declared.instruction.FlatInstruction.{FlatInstruction}
-use Rattle.flat_meaning.specs.declared.instruction.FlatInstruction.TheVariants.{Move}
-use Rattle.flat_meaning.specs.Memory.{Bytes, put}
-use Rattle.flat_meaning.specs.State.{State}
-use Rattle.flat_meaning.specs.Words.{IsOfWords}
-use Rattle.flat_meaning.specs.Meaning.{Context, Goes}
-use Rattle.flat_routines.specs.declared.registers.Held.{Held}
-use Rattle.flat_routines.specs.Registers.{AreBelow, OthersStay}
-use Rattle.flat_routines.specs.Routine.{HasAt, Outcome, Continues, Reaches, Never}
-use Rattle.flat_routines.specs.Effects.{worked}
-use Rattle.flat_routines.specs.Metadata.{View, held_registers, ShowsNothing}
-use Rattle.flat_routines.proofs.Steps.{has_front, has_back}
-use Rattle.flat_routines.proofs.Rules.{next, weaken, arrived}
-use Rattle.flat_routines.proofs.Distinct.{AreRegisters}
-use Rattle.flat_routines.proofs.Regions.{laid_out}
-use Rattle.flat_routines.proofs.Branches.{not_below, is_below}
-use Rattle.flat_routines.proofs.Showing.{shows_both}
-use Rattle.flat_routines.proofs.Words.{IsLocal}
-use Rattle.flat_routines.specs.Objects.StandsFor.{Views, Keys, IsHere}
-use Rattle.flat_routines.specs.Objects.Changes.{IsMoved}
-use Rattle.flat_routines.proofs.Objects.Changing.{live_is_made}
-use Rattle.flat_routines.proofs.Objects.Moves.{move_stands}
+use Rattle.flat_code.specs.declared.instruction.RightOperand.TheVariants.{Register}
+use Rattle.flat_code.specs.declared.instruction.FlatInstruction.{FlatInstruction}
+use Rattle.flat_code.specs.declared.instruction.FlatInstruction.TheVariants.{Move}
+use Rattle.flat_code.specs.Memory.{Bytes, put}
+use Rattle.flat_code.specs.State.{State}
+use Rattle.flat_code.specs.Words.{IsOfWords}
+use Rattle.flat_code.specs.Meaning.{Context, Goes}
+use Rattle.flat_code.specs.declared.registers.Held.{Held}
+use Rattle.flat_code.specs.Routines.Registers.{AreBelow, OthersStay}
+use Rattle.flat_code.specs.Routines.Routine.{HasAt, Outcome, Continues, Reaches, Never}
+use Rattle.flat_code.specs.Routines.Effects.{worked}
+use Rattle.flat_code.specs.Routines.Metadata.{View, held_registers, ShowsNothing}
+use Rattle.flat_code.proofs.Routines.Steps.{has_front, has_back}
+use Rattle.flat_code.proofs.Routines.Rules.{next, weaken, arrived}
+use Rattle.flat_code.proofs.Routines.Distinct.{AreRegisters}
+use Rattle.flat_code.proofs.Routines.Regions.{laid_out}
+use Rattle.flat_code.proofs.Routines.Branches.{not_below, is_below}
+use Rattle.flat_code.proofs.Routines.Showing.{shows_both}
+use Rattle.flat_code.proofs.Routines.Words.{IsLocal}
+use Rattle.flat_code.specs.Routines.Objects.StandsFor.{Views, Keys, IsHere}
+use Rattle.flat_code.specs.Routines.Objects.Changes.{IsMoved}
+use Rattle.flat_code.proofs.Routines.Objects.Changing.{live_is_made}
+use Rattle.flat_code.proofs.Routines.Objects.Moves.{move_stands}
 use Rattle.shadow_space.proofs.Entries.{context_of, agrees_shows, agrees_memory}
 use Rattle.lock_space.specs.Routines.{IsReleaseRoutine}
 use Rattle.heap_space.specs.Table.{block_total}
@@ -45,9 +45,9 @@ use Rattle.flat_actions.specs.Actions.{IsFor, Pointer, HasGiven, StaysElsewhere,
 use Rattle.flat_actions.specs.Ranges.{IsToMove, HasMovedTagged, IsTaggedMoveRoutine}
 use Rattle.flat_actions.proofs.Standing.{good_still, shown_still, spells_still, none_of_none}
 use Rattle.lib_wrappers.specs.AllocatingRoutines.Reallocating.{lesser_code, replace_code}
-use Rattle.flat_routines.proofs.Spaces.Quiet.{shows_worked}
+use Rattle.flat_code.proofs.Routines.Spaces.Quiet.{shows_worked}
 use Rattle.lib_wrappers.proofs.AllocatingRoutines.Stretches.{IsDone, stretch_on, goes_past, goes_into}
-use Rattle.flat_routines.proofs.Spaces.Quiet.{worked_words}
+use Rattle.flat_code.proofs.Routines.Spaces.Quiet.{worked_words}
 use Rattle.lib_wrappers.proofs.AllocatingRoutines.Allocates.{rows_are_blocks}
 use Rattle.lib_wrappers.proofs.AllocatingRoutines.BlockBirth.{LiesInHeap}
 use Rattle.lib_wrappers.proofs.AllocatingRoutines.BlockEnds.{HasEndedBlock, ends_block}

@@ -8,22 +8,22 @@ use Rattle.std.proofs.lemmas.Bool.{lt-ltb, le-ltb}
 use Rattle.rv_isa.specs.declared.instruction.LoadOp.TheVariants.{Ld}
 use Rattle.rv_isa.specs.Results.{reg_result, extended, bit_of}
 use Rattle.flat_operators.specs.Operators.{wide_code}
-use Rattle.flat_meaning.specs.declared.instruction.FlatInstruction.{FlatInstruction}
-use Rattle.flat_meaning.specs.declared.instruction.FlatInstruction.TheVariants.{Constant, Load}
-use Rattle.flat_meaning.specs.Memory.{put, load}
-use Rattle.flat_meaning.specs.State.{State}
-use Rattle.flat_meaning.specs.Words.{IsOfWords}
-use Rattle.flat_meaning.specs.Meaning.{Context, Goes}
-use Rattle.flat_routines.specs.declared.registers.Held.{Held}
-use Rattle.flat_routines.specs.Registers.{AreDistinct, AreBelow, IsNoneOf, OthersStay}
-use Rattle.flat_routines.specs.Routine.{HasAt, Outcome, Reaches, Never}
-use Rattle.flat_routines.specs.Effects.{effects, AreAllowed}
-use Rattle.flat_routines.specs.Renaming.{through}
-use Rattle.flat_routines.specs.Metadata.{held_registers, ShowsNothing}
-use Rattle.flat_routines.proofs.Steps.{has_front, has_back}
-use Rattle.flat_routines.proofs.Rules.{next}
-use Rattle.flat_routines.proofs.Distinct.{AreRegisters, register_of}
-use Rattle.flat_routines.proofs.Showing.{shows_both}
+use Rattle.flat_code.specs.declared.instruction.FlatInstruction.{FlatInstruction}
+use Rattle.flat_code.specs.declared.instruction.FlatInstruction.TheVariants.{Constant, Load}
+use Rattle.flat_code.specs.Memory.{put, load}
+use Rattle.flat_code.specs.State.{State}
+use Rattle.flat_code.specs.Words.{IsOfWords}
+use Rattle.flat_code.specs.Meaning.{Context, Goes}
+use Rattle.flat_code.specs.declared.registers.Held.{Held}
+use Rattle.flat_code.specs.Routines.Registers.{AreDistinct, AreBelow, IsNoneOf, OthersStay}
+use Rattle.flat_code.specs.Routines.Routine.{HasAt, Outcome, Reaches, Never}
+use Rattle.flat_code.specs.Routines.Effects.{effects, AreAllowed}
+use Rattle.flat_code.specs.Routines.Renaming.{through}
+use Rattle.flat_code.specs.Routines.Metadata.{held_registers, ShowsNothing}
+use Rattle.flat_code.proofs.Routines.Steps.{has_front, has_back}
+use Rattle.flat_code.proofs.Routines.Rules.{next}
+use Rattle.flat_code.proofs.Routines.Distinct.{AreRegisters, register_of}
+use Rattle.flat_code.proofs.Routines.Showing.{shows_both}
 use Rattle.shadow_space.proofs.Entries.{context_of, agrees_shows, agrees_memory}
 use Rattle.lock_space.specs.Locks.{keys_cell, key_counter}
 use Rattle.lock_space.proofs.Spaces.{AreLocksLaidOut, locks_laid_out, allowed_at}

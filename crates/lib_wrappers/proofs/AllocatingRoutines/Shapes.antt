@@ -3,19 +3,19 @@ use Rattle.std.proofs.Common.{◌≡◌, ℕ, ◌+◌, ◌/◌, ◌%◌, ◌^◌
 use Rattle.rv_isa.specs.declared.instruction.BranchOp.TheVariants.{Beq, Bne}
 use Rattle.addr_map.specs.declared.region.Region.TheVariants.{Heap, FreeLocks}
 use Rattle.addr_map.specs.Places.{MapSizes, AreMapped}
-use Rattle.flat_meaning.specs.declared.instruction.RightOperand.TheVariants.{Number}
-use Rattle.flat_meaning.specs.declared.instruction.FlatInstruction.{FlatInstruction}
-use Rattle.flat_routines.specs.declared.registers.Held.{Held}
-use Rattle.flat_routines.specs.Registers.{AreBelow}
-use Rattle.flat_routines.specs.Routine.{unless_code}
-use Rattle.flat_routines.specs.Metadata.{held_registers}
-use Rattle.flat_routines.specs.Shape.{HasShape}
-use Rattle.flat_routines.proofs.Distinct.{below_more}
-use Rattle.flat_routines.proofs.Shape.{shaped, both, short_below, start_short, piece, piece_behind, below_both}
-use Rattle.flat_routines.proofs.Shape.{shaped_append, shaped_registers, shaped_unless, up_to, at_most}
+use Rattle.flat_code.specs.declared.instruction.RightOperand.TheVariants.{Number}
+use Rattle.flat_code.specs.declared.instruction.FlatInstruction.{FlatInstruction}
+use Rattle.flat_code.specs.declared.registers.Held.{Held}
+use Rattle.flat_code.specs.Routines.Registers.{AreBelow}
+use Rattle.flat_code.specs.Routines.Routine.{unless_code}
+use Rattle.flat_code.specs.Routines.Metadata.{held_registers}
+use Rattle.flat_code.specs.Routines.Shape.{HasShape}
+use Rattle.flat_code.proofs.Routines.Distinct.{below_more}
+use Rattle.flat_code.proofs.Routines.Shape.{shaped, both, short_below, start_short, piece, piece_behind, below_both}
+use Rattle.flat_code.proofs.Routines.Shape.{shaped_append, shaped_registers, shaped_unless, up_to, at_most}
 use Rattle.flat_actions.proofs.Shapes.{pointer_from}
-use Rattle.flat_routines.specs.InputOutput.{IsWithoutInputOutput}
-use Rattle.flat_routines.proofs.InputOutput.{computes}
+use Rattle.flat_code.specs.Routines.InputOutput.{IsWithoutInputOutput}
+use Rattle.flat_code.proofs.Routines.InputOutput.{computes}
 use Rattle.lib_wrappers.proofs.Quiet.{joined_quiet}
 use Rattle.lib_wrappers.specs.declared.allocating.entering.EntryRegisters.{EntryRegisters}
 use Rattle.lib_wrappers.specs.AllocatingRoutines.Zeroing.{word_bytes, zero_bytes, zero_code}

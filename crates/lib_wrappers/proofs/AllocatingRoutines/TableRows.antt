@@ -4,7 +4,7 @@ use Rattle.std.proofs.Common.{get_or, refl, sym, ◌∙◌, subst, arith}
 use Rattle.std.proofs.lemmas.Bool.{cases_eq, cases_lt}
 use Rattle.obj_memory.specs.declared.object.Storage.TheVariants.{Allocated}
 use Rattle.obj_memory.specs.Objects.{Objects, object_at}
-use Rattle.flat_routines.specs.Objects.StandsFor.{BlockRow, Keys, no_row, IsRowOf, IsTable}
+use Rattle.flat_code.specs.Routines.Objects.StandsFor.{BlockRow, Keys, no_row, IsRowOf, IsTable}
 use Rattle.heap_space.specs.Rows.{row_end, AreInOrder, with_row, without_row, HasStart}
 use Rattle.heap_space.proofs.Lists.{row_first, row_behind}
 use Rattle.heap_space.proofs.Objects.{starts_above}

@@ -6,24 +6,24 @@ use Rattle.addr_map.specs.Places.{MapSizes, AreMapped, objects_begin, spaces_beg
 use Rattle.addr_map.specs.Places.{region_end}
 use Rattle.rv_isa.specs.declared.instruction.StoreOp.TheVariants.{Sb, Sd}
 use Rattle.rv_isa.specs.Results.{reg_result}
-use Rattle.flat_meaning.specs.declared.instruction.FlatInstruction.{FlatInstruction}
-use Rattle.flat_meaning.specs.Memory.{Bytes, put, KeepsBut}
-use Rattle.flat_meaning.specs.State.{State}
-use Rattle.flat_meaning.specs.Words.{IsOfWords}
-use Rattle.flat_meaning.specs.Meaning.{Context, Goes}
-use Rattle.flat_routines.specs.Registers.{AreBelow}
-use Rattle.flat_routines.specs.Routine.{Outcome, Continues, Halts, Reaches, Does, Either, Never}
-use Rattle.flat_routines.specs.Effects.{effects}
-use Rattle.flat_routines.specs.Renaming.{through}
-use Rattle.flat_routines.specs.Metadata.{View, no_metadata, IsObjectWord, KeepsShadow, ShowsNothing}
-use Rattle.flat_routines.proofs.Steps.{has_front, has_back, has_self}
-use Rattle.flat_routines.proofs.Rules.{line, next, weaken}
-use Rattle.flat_routines.proofs.Distinct.{AreRegisters, register_of, registers_rename, others_stay}
-use Rattle.flat_routines.proofs.Regions.{IsLaidOut, laid_out, spaces_follow}
-use Rattle.flat_routines.proofs.Wrapped.{routine}
-use Rattle.flat_routines.proofs.Showing.{shows_both}
-use Rattle.flat_routines.proofs.Words.{IsLocal}
-use Rattle.flat_routines.proofs.Objects.Changing.{global_is_lock}
+use Rattle.flat_code.specs.declared.instruction.FlatInstruction.{FlatInstruction}
+use Rattle.flat_code.specs.Memory.{Bytes, put, KeepsBut}
+use Rattle.flat_code.specs.State.{State}
+use Rattle.flat_code.specs.Words.{IsOfWords}
+use Rattle.flat_code.specs.Meaning.{Context, Goes}
+use Rattle.flat_code.specs.Routines.Registers.{AreBelow}
+use Rattle.flat_code.specs.Routines.Routine.{Outcome, Continues, Halts, Reaches, Does, Either, Never}
+use Rattle.flat_code.specs.Routines.Effects.{effects}
+use Rattle.flat_code.specs.Routines.Renaming.{through}
+use Rattle.flat_code.specs.Routines.Metadata.{View, no_metadata, IsObjectWord, KeepsShadow, ShowsNothing}
+use Rattle.flat_code.proofs.Routines.Steps.{has_front, has_back, has_self}
+use Rattle.flat_code.proofs.Routines.Rules.{line, next, weaken}
+use Rattle.flat_code.proofs.Routines.Distinct.{AreRegisters, register_of, registers_rename, others_stay}
+use Rattle.flat_code.proofs.Routines.Regions.{IsLaidOut, laid_out, spaces_follow}
+use Rattle.flat_code.proofs.Routines.Wrapped.{routine}
+use Rattle.flat_code.proofs.Routines.Showing.{shows_both}
+use Rattle.flat_code.proofs.Routines.Words.{IsLocal}
+use Rattle.flat_code.proofs.Routines.Objects.Changing.{global_is_lock}
 use Rattle.shadow_space.specs.Form.{IsClearRoutine, HasCleared}
 use Rattle.shadow_space.proofs.Entries.{context_of, agrees_shows, agrees_memory}
 use Rattle.lock_space.proofs.Spaces.{locks_laid_out}

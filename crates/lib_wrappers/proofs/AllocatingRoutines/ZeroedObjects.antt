@@ -9,12 +9,12 @@ use Rattle.obj_memory.proofs.Keeping.{keeps_zeroed}
 use Rattle.obj_memory.proofs.Listed.{every_replicate}
 use Rattle.obj_memory.proofs.Making.{zeroed_object, zeroed_other}
 use Rattle.obj_memory.proofs.Soundness.{sound_zeroed}
-use Rattle.flat_meaning.specs.Memory.{Bytes}
-use Rattle.flat_routines.specs.Metadata.{View, no_metadata}
-use Rattle.flat_routines.proofs.Regions.{laid_out, spaces_follow}
-use Rattle.flat_routines.specs.Objects.StandsFor.{Views, Keys, spell, IsHere, StandsFor}
-use Rattle.flat_routines.specs.Objects.Changes.{Changes}
-use Rattle.flat_routines.proofs.Objects.Changing.{live_is_made, changed}
+use Rattle.flat_code.specs.Memory.{Bytes}
+use Rattle.flat_code.specs.Routines.Metadata.{View, no_metadata}
+use Rattle.flat_code.proofs.Routines.Regions.{laid_out, spaces_follow}
+use Rattle.flat_code.specs.Routines.Objects.StandsFor.{Views, Keys, spell, IsHere, StandsFor}
+use Rattle.flat_code.specs.Routines.Objects.Changes.{Changes}
+use Rattle.flat_code.proofs.Routines.Objects.Changing.{live_is_made, changed}
 use Rattle.lock_space.proofs.Spaces.{locks_laid_out}
 use Rattle.lock_space.proofs.Local.{lock_kept, counter_kept}
 use Rattle.heap_space.specs.Table.{IsTableGood}

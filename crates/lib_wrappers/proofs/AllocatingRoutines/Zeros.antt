@@ -8,21 +8,21 @@ use Rattle.addr_map.specs.Places.{MapSizes, objects_begin, region_end}
 use Rattle.rv_isa.specs.declared.instruction.BranchOp.TheVariants.{Bgeu}
 use Rattle.rv_isa.specs.declared.instruction.StoreOp.{StoreOp}
 use Rattle.rv_isa.specs.Results.{reg_result, store_bytes}
-use Rattle.flat_meaning.specs.declared.instruction.RightOperand.TheVariants.{Register}
-use Rattle.flat_meaning.specs.declared.instruction.FlatInstruction.{FlatInstruction}
-use Rattle.flat_meaning.specs.declared.instruction.FlatInstruction.TheVariants.{JumpBack}
-use Rattle.flat_meaning.specs.Memory.{Bytes, put, store, KeepsBut}
-use Rattle.flat_meaning.specs.State.{State}
-use Rattle.flat_meaning.specs.Words.{IsOfWords}
-use Rattle.flat_meaning.specs.Meaning.{Context, Goes}
-use Rattle.flat_meaning.proofs.Stored.{put_same, store_beside, keeps_within, keeps_both}
-use Rattle.flat_routines.specs.Routine.{Outcome, Continues, Halts, HasAt, Reaches, Either, Never}
-use Rattle.flat_routines.specs.Effects.{worked, effects, AreAllowed}
-use Rattle.flat_routines.specs.Metadata.{ShowsNothing}
-use Rattle.flat_routines.proofs.Steps.{has_front}
-use Rattle.flat_routines.proofs.Rules.{line, loop, weaken, Turns}
-use Rattle.flat_routines.proofs.Branches.{not_below, is_below}
-use Rattle.flat_routines.proofs.Regions.{object_allowed}
+use Rattle.flat_code.specs.declared.instruction.RightOperand.TheVariants.{Register}
+use Rattle.flat_code.specs.declared.instruction.FlatInstruction.{FlatInstruction}
+use Rattle.flat_code.specs.declared.instruction.FlatInstruction.TheVariants.{JumpBack}
+use Rattle.flat_code.specs.Memory.{Bytes, put, store, KeepsBut}
+use Rattle.flat_code.specs.State.{State}
+use Rattle.flat_code.specs.Words.{IsOfWords}
+use Rattle.flat_code.specs.Meaning.{Context, Goes}
+use Rattle.flat_code.proofs.Stored.{put_same, store_beside, keeps_within, keeps_both}
+use Rattle.flat_code.specs.Routines.Routine.{Outcome, Continues, Halts, HasAt, Reaches, Either, Never}
+use Rattle.flat_code.specs.Routines.Effects.{worked, effects, AreAllowed}
+use Rattle.flat_code.specs.Routines.Metadata.{ShowsNothing}
+use Rattle.flat_code.proofs.Routines.Steps.{has_front}
+use Rattle.flat_code.proofs.Routines.Rules.{line, loop, weaken, Turns}
+use Rattle.flat_code.proofs.Routines.Branches.{not_below, is_below}
+use Rattle.flat_code.proofs.Routines.Regions.{object_allowed}
 use Rattle.shadow_space.proofs.Entries.{context_of}
 use Rattle.lib_wrappers.specs.AllocatingRoutines.Zeroing.{zero_one, zero_until}
 

@@ -5,9 +5,9 @@ use Rattle.addr_map.specs.Places.{MapSizes, region_start}
 use Rattle.obj_memory.specs.declared.value.Tag.TheVariants.{Untagged}
 use Rattle.obj_memory.specs.Objects.{ObjectState, Objects}
 use Rattle.obj_memory.specs.Sound.{IsSoundObject}
-use Rattle.flat_meaning.specs.Memory.{Bytes, Keeps}
-use Rattle.flat_routines.specs.Objects.StandsFor.{Views, Keys}
-use Rattle.flat_routines.proofs.Words.{metadata_kept}
+use Rattle.flat_code.specs.Memory.{Bytes, Keeps}
+use Rattle.flat_code.specs.Routines.Objects.StandsFor.{Views, Keys}
+use Rattle.flat_code.proofs.Routines.Words.{metadata_kept}
 use Rattle.flat_actions.specs.Actions.{KeepsHeld}
 use Rattle.lib_wrappers.proofs.MovingRoutines.Guarded.{spell_kept}
 use Rattle.lib_wrappers.specs.AreaRoutines.Areas.{IsArea, area_bytes, entries_begin}

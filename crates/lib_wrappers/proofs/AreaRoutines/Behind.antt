@@ -4,13 +4,13 @@ use Rattle.addr_map.specs.declared.region.Region.TheVariants.{Locks, Blocks, Str
 use Rattle.addr_map.specs.Places.{MapSizes, AreMapped, spaces_begin, region_start}
 use Rattle.obj_memory.specs.Objects.{Objects, object_at}
 use Rattle.source_meaning.specs.State.{State as Source}
-use Rattle.flat_meaning.specs.Memory.{Bytes, load}
-use Rattle.flat_meaning.specs.State.{State}
-use Rattle.flat_routines.specs.Metadata.{View, ShowsNothing, KeepsShadow}
-use Rattle.flat_routines.proofs.Regions.{DoSpacesFollow, laid_out, spaces_follow}
-use Rattle.flat_routines.proofs.Words.{IsLocal}
-use Rattle.flat_routines.specs.Objects.StandsFor.{Views, Keys, IsLock, IsTable, StandsFor}
-use Rattle.flat_routines.proofs.Objects.Changing.{global_is_lock, live_is_made, word_of}
+use Rattle.flat_code.specs.Memory.{Bytes, load}
+use Rattle.flat_code.specs.State.{State}
+use Rattle.flat_code.specs.Routines.Metadata.{View, ShowsNothing, KeepsShadow}
+use Rattle.flat_code.proofs.Routines.Regions.{DoSpacesFollow, laid_out, spaces_follow}
+use Rattle.flat_code.proofs.Routines.Words.{IsLocal}
+use Rattle.flat_code.specs.Routines.Objects.StandsFor.{Views, Keys, IsLock, IsTable, StandsFor}
+use Rattle.flat_code.proofs.Routines.Objects.Changing.{global_is_lock, live_is_made, word_of}
 use Rattle.lock_space.specs.Locks.{KeepsLocks}
 use Rattle.lock_space.proofs.Spaces.{AreLocksLaidOut, locks_laid_out}
 use Rattle.lock_space.proofs.Local.{lock_kept, counter_kept, good_kept as locks_kept}

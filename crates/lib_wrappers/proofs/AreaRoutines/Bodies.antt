@@ -1,29 +1,31 @@
 -- What the bodies of the loop do: a word made zero, an entry taken to an area, and one taken from there.
-use Rattle.std.proofs.Common.{◌≡◌, ◌≢◌, ℕ, suc, ◌+◌, ◌-◌, ◌*◌, ◌%◌, ◌^◌, ◌<◌, ◌≤◌, inl, inr, ⊎_elim, List, [], ◌∷◌, ◌++◌}
+use Rattle.std.proofs.Common.{◌≡◌, ◌≢◌, ℕ, suc, ◌+◌, ◌-◌, ◌*◌, ◌%◌, ◌^◌, ◌<◌, ◌≤◌, inl, inr, ⊎_elim, List, [], ◌∷◌}
+use Rattle.std.proofs.Common.{◌++◌}
 use Rattle.std.proofs.Common.{true, refl, sym, ap, ◌∙◌, subst, arith}
 use Rattle.std.proofs.lemmas.Bool.{cases_eq, cases_lt}
 use Rattle.addr_map.specs.Places.{MapSizes, spaces_begin, region_size, region_end}
 use Rattle.addr_map.specs.declared.region.Region.TheVariants.{Shadow, Cells}
 use Rattle.rv_isa.specs.Results.{extended}
-use Rattle.flat_meaning.specs.declared.instruction.FlatInstruction.{FlatInstruction}
-use Rattle.flat_meaning.specs.Memory.{Bytes, put, load, store, KeepsBut}
-use Rattle.flat_meaning.specs.State.{State}
-use Rattle.flat_meaning.specs.Meaning.{Context}
-use Rattle.flat_meaning.proofs.Stored.{store_beside, keeps_within, keeps_both, kept_beside}
-use Rattle.flat_routines.specs.declared.registers.Entry.{Entry}
-use Rattle.flat_routines.specs.Registers.{IsNoneOf, OthersStay}
-use Rattle.flat_routines.specs.Routine.{Does, Either, Never}
-use Rattle.flat_routines.specs.Metadata.{Metadata, View, metadata_at, metadata_in, entry_registers, IsObjectWord}
-use Rattle.flat_routines.specs.Metadata.{KeepsButShadow, KeepsShadow, ShowsNothing}
-use Rattle.flat_routines.proofs.Showing.{shows_both}
-use Rattle.flat_routines.proofs.Words.{IsLocal, IsOfFourWords, store_four, four_read, four_beside, metadata_kept}
-use Rattle.flat_routines.proofs.Words.{loaded_at, stored_at, same_metadata}
+use Rattle.flat_code.specs.declared.instruction.FlatInstruction.{FlatInstruction}
+use Rattle.flat_code.specs.Memory.{Bytes, put, load, store, KeepsBut}
+use Rattle.flat_code.specs.State.{State}
+use Rattle.flat_code.specs.Meaning.{Context}
+use Rattle.flat_code.proofs.Stored.{store_beside, keeps_within, keeps_both, kept_beside}
+use Rattle.flat_code.specs.declared.registers.Entry.{Entry}
+use Rattle.flat_code.specs.Routines.Registers.{IsNoneOf, OthersStay}
+use Rattle.flat_code.specs.Routines.Routine.{Does, Either, Never}
+use Rattle.flat_code.specs.Routines.Metadata.{Metadata, View, metadata_at, metadata_in, entry_registers, IsObjectWord}
+use Rattle.flat_code.specs.Routines.Metadata.{KeepsButShadow, KeepsShadow, ShowsNothing}
+use Rattle.flat_code.proofs.Routines.Showing.{shows_both}
+use Rattle.flat_code.proofs.Routines.Words.{IsLocal, IsOfFourWords, store_four, four_read, four_beside, metadata_kept}
+use Rattle.flat_code.proofs.Routines.Words.{loaded_at, stored_at, same_metadata}
 use Rattle.shadow_space.specs.Form.{HasRead, IsReadRoutine, HasWritten, IsWriteRoutine}
 use Rattle.lock_space.proofs.Spaces.{allowed_at}
 use Rattle.lib_wrappers.proofs.AllocatingRoutines.Zeros.{zero_stored}
 use Rattle.lib_wrappers.proofs.MovingRoutines.Steps.{both_quiet, quiet_weaken, IsGlued, glued}
 use Rattle.lib_wrappers.proofs.MovingRoutines.Bytes.{in_runtime}
-use Rattle.lib_wrappers.specs.AreaRoutines.Loops.{IsAtWord, HasDoneWord, DoesWord, zero_body, entry_behind, store_entry, load_entry}
+use Rattle.lib_wrappers.specs.AreaRoutines.Loops.{IsAtWord, HasDoneWord, DoesWord, zero_body, entry_behind, store_entry}
+use Rattle.lib_wrappers.specs.AreaRoutines.Loops.{load_entry}
 
 -- the registers of the loop
 abbrev loop_registers : ℕ → List ℕ

@@ -12,9 +12,9 @@ use Rattle.obj_memory.specs.Access.{moved_tags}
 use Rattle.obj_memory.proofs.Listed.{get_or-overwrite_in, get_or-overwrite_other}
 use Rattle.obj_memory.proofs.Moving.{get_or-moved_tags}
 use Rattle.source_meaning.specs.Structures.{moved_into, contents_of}
-use Rattle.flat_meaning.specs.Memory.{Bytes}
-use Rattle.flat_routines.specs.Metadata.{metadata_at, no_metadata}
-use Rattle.flat_routines.specs.Objects.StandsFor.{Views, Keys, spell}
+use Rattle.flat_code.specs.Memory.{Bytes}
+use Rattle.flat_code.specs.Routines.Metadata.{metadata_at, no_metadata}
+use Rattle.flat_code.specs.Routines.Objects.StandsFor.{Views, Keys, spell}
 use Rattle.lib_wrappers.specs.AreaRoutines.Areas.{IsArea, entries_begin}
 
 module _ (size start source : ℕ) (from to : ObjectState) where

@@ -6,17 +6,17 @@ use Rattle.std.proofs.lemmas.Bool.{cases_eq, cases_lt, lt-ltb, le-ltb}
 use Rattle.addr_map.specs.Places.{MapSizes, AreMapped}
 use Rattle.rv_isa.specs.Results.{reg_result, bit_of}
 use Rattle.words.specs.Operations.{product}
-use Rattle.flat_meaning.specs.declared.instruction.FlatInstruction.{FlatInstruction}
-use Rattle.flat_meaning.specs.Memory.{Bytes, put, KeepsBut}
-use Rattle.flat_meaning.specs.State.{State}
-use Rattle.flat_meaning.specs.Meaning.{Context}
-use Rattle.flat_meaning.proofs.Stored.{kept_beside, keeps_both, keeps_within}
-use Rattle.flat_routines.specs.declared.registers.Held.{Held}
-use Rattle.flat_routines.specs.Registers.{AreBelow, OthersStay}
-use Rattle.flat_routines.specs.Routine.{Does, Either, Never}
-use Rattle.flat_routines.specs.Metadata.{Metadata, metadata_at, metadata_in, ShowsNothing, held_registers}
-use Rattle.flat_routines.proofs.Showing.{shows_both}
-use Rattle.flat_routines.proofs.Words.{IsOfFourWords, store_four, four_read, four_beside, metadata_kept}
+use Rattle.flat_code.specs.declared.instruction.FlatInstruction.{FlatInstruction}
+use Rattle.flat_code.specs.Memory.{Bytes, put, KeepsBut}
+use Rattle.flat_code.specs.State.{State}
+use Rattle.flat_code.specs.Meaning.{Context}
+use Rattle.flat_code.proofs.Stored.{kept_beside, keeps_both, keeps_within}
+use Rattle.flat_code.specs.declared.registers.Held.{Held}
+use Rattle.flat_code.specs.Routines.Registers.{AreBelow, OthersStay}
+use Rattle.flat_code.specs.Routines.Routine.{Does, Either, Never}
+use Rattle.flat_code.specs.Routines.Metadata.{Metadata, metadata_at, metadata_in, ShowsNothing, held_registers}
+use Rattle.flat_code.proofs.Routines.Showing.{shows_both}
+use Rattle.flat_code.proofs.Routines.Words.{IsOfFourWords, store_four, four_read, four_beside, metadata_kept}
 use Rattle.flat_actions.specs.Ranges.{HasMovedBytes}
 use Rattle.flat_actions.proofs.Standing.{entry_stays}
 use Rattle.obj_memory.specs.Sound.{DoNotMeet}
@@ -24,12 +24,15 @@ use Rattle.lib_wrappers.specs.MovingRoutines.Moving.{IsToMoveUsable, IsUsableMov
 use Rattle.lib_wrappers.proofs.MovingRoutines.Steps.{both_quiet, quiet_weaken, IsGlued, glued}
 use Rattle.lib_wrappers.proofs.MovingRoutines.Bytes.{in_runtime}
 use Rattle.lib_wrappers.specs.AreaRoutines.Areas.{IsAreaPlace, area_bytes, entries_begin}
-use Rattle.lib_wrappers.specs.AreaRoutines.Loops.{word_loop, zero_body, entry_behind, load_entry, store_entry, IsAtWord, HasDoneWord}
+use Rattle.lib_wrappers.specs.AreaRoutines.Loops.{word_loop, zero_body, entry_behind, load_entry, store_entry, IsAtWord}
+use Rattle.lib_wrappers.specs.AreaRoutines.Loops.{HasDoneWord}
 use Rattle.lib_wrappers.specs.AreaRoutines.Loops.{DoesWord}
-use Rattle.lib_wrappers.specs.AreaRoutines.Moving.{IsToMoveArea, HasMovedArea, IsMoveAreaRoutine, count_parts, entry_of_word}
+use Rattle.lib_wrappers.specs.AreaRoutines.Moving.{IsToMoveArea, HasMovedArea, IsMoveAreaRoutine, count_parts}
+use Rattle.lib_wrappers.specs.AreaRoutines.Moving.{entry_of_word}
 use Rattle.lib_wrappers.specs.AreaRoutines.Moving.{move_body, count_rest, move_parts, clear_rest}
 use Rattle.lib_wrappers.proofs.AreaRoutines.WordLoops.{Going, words_all}
-use Rattle.lib_wrappers.proofs.AreaRoutines.Bodies.{IsSpaceRange, HasStored, HasLoaded, stores, loads, AreZeroed, zero_does_word}
+use Rattle.lib_wrappers.proofs.AreaRoutines.Bodies.{IsSpaceRange, HasStored, HasLoaded, stores, loads, AreZeroed}
+use Rattle.lib_wrappers.proofs.AreaRoutines.Bodies.{zero_does_word}
 use Rattle.lib_wrappers.proofs.AreaRoutines.Spaces.{structure_space, part_of_area, space_usable}
 use Rattle.lib_wrappers.proofs.AreaRoutines.TakeRanges.{zeros_are_none, all_counted, none_counted}
 

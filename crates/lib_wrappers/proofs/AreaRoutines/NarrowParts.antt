@@ -3,14 +3,14 @@ use Rattle.std.proofs.Common.{ℕ, ◌+◌, List, length, ap, ◌∙◌, arith}
 use Rattle.addr_map.specs.Places.{MapSizes, AreMapped}
 use Rattle.obj_memory.specs.declared.value.Value.{Value}
 use Rattle.obj_memory.specs.Judgement.{narrowed}
-use Rattle.flat_meaning.specs.declared.instruction.RightOperand.{RightOperand}
-use Rattle.flat_meaning.specs.declared.instruction.FlatInstruction.{FlatInstruction}
-use Rattle.flat_meaning.specs.State.{State}
-use Rattle.flat_meaning.specs.Meaning.{Goes}
-use Rattle.flat_routines.specs.declared.registers.Held.{Held}
-use Rattle.flat_routines.specs.Routine.{Outcome, Continues, Halts, Either, Never}
-use Rattle.flat_routines.specs.Metadata.{Metadata}
-use Rattle.flat_routines.proofs.Rules.{weaken}
+use Rattle.flat_code.specs.declared.instruction.RightOperand.{RightOperand}
+use Rattle.flat_code.specs.declared.instruction.FlatInstruction.{FlatInstruction}
+use Rattle.flat_code.specs.State.{State}
+use Rattle.flat_code.specs.Meaning.{Goes}
+use Rattle.flat_code.specs.declared.registers.Held.{Held}
+use Rattle.flat_code.specs.Routines.Routine.{Outcome, Continues, Halts, Either, Never}
+use Rattle.flat_code.specs.Routines.Metadata.{Metadata}
+use Rattle.flat_code.proofs.Routines.Rules.{weaken}
 use Rattle.shadow_space.proofs.Entries.{context_of}
 use Rattle.flat_actions.specs.Narrowing.{HasGoneOn, IsMoveOnRoutine}
 use Rattle.lib_wrappers.specs.AreaRoutines.Parts.{IsToNarrowPart, HasNarrowedPart, IsNarrowPartRoutine}

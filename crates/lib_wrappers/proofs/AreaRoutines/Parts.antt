@@ -3,13 +3,13 @@ use Rattle.std.proofs.Common.{◌≡◌, ℕ, ◌+◌, ◌-◌, ◌*◌, ◌/◌
 use Rattle.std.proofs.Common.{subst, arith, Some}
 use Rattle.addr_map.specs.Places.{MapSizes, AreMapped}
 use Rattle.source_meaning.specs.Structures.{taken}
-use Rattle.flat_meaning.specs.declared.instruction.FlatInstruction.{FlatInstruction}
-use Rattle.flat_meaning.specs.Memory.{Bytes, KeepsBut}
-use Rattle.flat_meaning.specs.State.{State}
-use Rattle.flat_routines.specs.declared.registers.Held.{Held}
-use Rattle.flat_routines.specs.Routine.{Outcome, Continues, Halts, Either, Never}
-use Rattle.flat_routines.specs.Metadata.{View}
-use Rattle.flat_routines.proofs.Words.{IsLocal}
+use Rattle.flat_code.specs.declared.instruction.FlatInstruction.{FlatInstruction}
+use Rattle.flat_code.specs.Memory.{Bytes, KeepsBut}
+use Rattle.flat_code.specs.State.{State}
+use Rattle.flat_code.specs.declared.registers.Held.{Held}
+use Rattle.flat_code.specs.Routines.Routine.{Outcome, Continues, Halts, Either, Never}
+use Rattle.flat_code.specs.Routines.Metadata.{View}
+use Rattle.flat_code.proofs.Routines.Words.{IsLocal}
 use Rattle.flat_actions.specs.Actions.{IsFor, views_of}
 use Rattle.lib_wrappers.proofs.MovingRoutines.Steps.{does_weaken}
 use Rattle.lib_wrappers.proofs.MovingRoutines.Bytes.{in_runtime}

@@ -3,19 +3,20 @@ use Rattle.std.proofs.Common.{◌≡◌, ◌≢◌, ℕ, ◌+◌, ◌-◌, ◌*�
 use Rattle.std.proofs.Common.{◌∷◌, ◌++◌, refl, sym, ap, ◌∙◌, subst, arith}
 use Rattle.addr_map.specs.Places.{MapSizes, AreMapped}
 use Rattle.rv_isa.specs.Results.{reg_result}
-use Rattle.flat_meaning.specs.declared.instruction.FlatInstruction.{FlatInstruction}
-use Rattle.flat_meaning.specs.Memory.{Bytes, put}
-use Rattle.flat_meaning.specs.State.{State}
-use Rattle.flat_meaning.specs.Meaning.{Context}
-use Rattle.flat_routines.specs.declared.registers.Held.{Held}
-use Rattle.flat_routines.specs.Registers.{AreBelow, OthersStay}
-use Rattle.flat_routines.specs.Routine.{Does, Either, Never}
-use Rattle.flat_routines.specs.Metadata.{View, metadata_at, IsObjectWord, KeepsButShadow, KeepsShadow, ShowsNothing}
-use Rattle.flat_routines.specs.Metadata.{held_registers}
-use Rattle.flat_routines.specs.Objects.Changes.{IsMovedWord, IsKeptWord}
-use Rattle.flat_routines.proofs.Regions.{laid_out}
-use Rattle.flat_routines.proofs.Showing.{shows_both}
-use Rattle.flat_routines.proofs.Words.{IsLocal, metadata_kept}
+use Rattle.flat_code.specs.declared.instruction.FlatInstruction.{FlatInstruction}
+use Rattle.flat_code.specs.Memory.{Bytes, put}
+use Rattle.flat_code.specs.State.{State}
+use Rattle.flat_code.specs.Meaning.{Context}
+use Rattle.flat_code.specs.declared.registers.Held.{Held}
+use Rattle.flat_code.specs.Routines.Registers.{AreBelow, OthersStay}
+use Rattle.flat_code.specs.Routines.Routine.{Does, Either, Never}
+use Rattle.flat_code.specs.Routines.Metadata.{View, metadata_at, IsObjectWord, KeepsButShadow, KeepsShadow}
+use Rattle.flat_code.specs.Routines.Metadata.{ShowsNothing}
+use Rattle.flat_code.specs.Routines.Metadata.{held_registers}
+use Rattle.flat_code.specs.Routines.Objects.Changes.{IsMovedWord, IsKeptWord}
+use Rattle.flat_code.proofs.Routines.Regions.{laid_out}
+use Rattle.flat_code.proofs.Routines.Showing.{shows_both}
+use Rattle.flat_code.proofs.Routines.Words.{IsLocal, metadata_kept}
 use Rattle.shadow_space.specs.Form.{IsWriteRoutine}
 use Rattle.flat_actions.specs.Actions.{AreSpacesGood}
 use Rattle.flat_actions.specs.Ranges.{IsObjectRange, HasMovedBytes}
@@ -25,7 +26,8 @@ use Rattle.lib_wrappers.specs.MovingRoutines.Tagged.{count_words}
 use Rattle.lib_wrappers.proofs.MovingRoutines.Steps.{both_quiet, quiet_weaken, IsGlued, glued}
 use Rattle.lib_wrappers.proofs.MovingRoutines.Bytes.{in_runtime, object_usable}
 use Rattle.lib_wrappers.proofs.MovingRoutines.Words.{AreNone, AreLow, HasCounted, counts, first_word, end_word}
-use Rattle.lib_wrappers.proofs.MovingRoutines.Tagged.{ChangesRange, tables_stay, spaces_stay, behind_stays, shadow_stays}
+use Rattle.lib_wrappers.proofs.MovingRoutines.Tagged.{ChangesRange, tables_stay, spaces_stay, behind_stays}
+use Rattle.lib_wrappers.proofs.MovingRoutines.Tagged.{shadow_stays}
 use Rattle.lib_wrappers.specs.AreaRoutines.Areas.{area_bytes, entries_begin}
 use Rattle.lib_wrappers.specs.AreaRoutines.Loops.{word_loop, entry_behind, load_entry}
 use Rattle.lib_wrappers.specs.AreaRoutines.Putting.{IsToPut, HasPutRange, IsPutRangeRoutine, entry_place, put_entries}

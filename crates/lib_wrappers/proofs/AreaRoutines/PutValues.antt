@@ -18,18 +18,18 @@ use Rattle.source_meaning.specs.Actions.{integer, place_or_stop}
 use Rattle.source_meaning.specs.Structures.{moved_into, put_range, put_contents}
 use Rattle.source_meaning.proofs.Holding.{direct_allowed}
 use Rattle.source_meaning.proofs.SureStructures.{moved_sound, keeps_put, put_object, put_other, range_is}
-use Rattle.flat_meaning.specs.declared.instruction.FlatInstruction.{FlatInstruction}
-use Rattle.flat_meaning.specs.Memory.{Bytes}
-use Rattle.flat_meaning.specs.State.{State}
-use Rattle.flat_meaning.specs.Meaning.{Goes}
-use Rattle.flat_routines.specs.declared.registers.Held.{Held}
-use Rattle.flat_routines.specs.Routine.{Outcome, Continues, Halts, Either, Never}
-use Rattle.flat_routines.specs.Metadata.{View, metadata_at, IsObjectWord}
-use Rattle.flat_routines.proofs.Regions.{IsLaidOut, laid_out}
-use Rattle.flat_routines.proofs.Rules.{weaken}
-use Rattle.flat_routines.specs.Objects.StandsFor.{Views, Keys, spell, StandsFor}
-use Rattle.flat_routines.specs.Objects.Changes.{Changes, IsKeptWord}
-use Rattle.flat_routines.proofs.Objects.Changing.{word_of, changed}
+use Rattle.flat_code.specs.declared.instruction.FlatInstruction.{FlatInstruction}
+use Rattle.flat_code.specs.Memory.{Bytes}
+use Rattle.flat_code.specs.State.{State}
+use Rattle.flat_code.specs.Meaning.{Goes}
+use Rattle.flat_code.specs.declared.registers.Held.{Held}
+use Rattle.flat_code.specs.Routines.Routine.{Outcome, Continues, Halts, Either, Never}
+use Rattle.flat_code.specs.Routines.Metadata.{View, metadata_at, IsObjectWord}
+use Rattle.flat_code.proofs.Routines.Regions.{IsLaidOut, laid_out}
+use Rattle.flat_code.proofs.Routines.Rules.{weaken}
+use Rattle.flat_code.specs.Routines.Objects.StandsFor.{Views, Keys, spell, StandsFor}
+use Rattle.flat_code.specs.Routines.Objects.Changes.{Changes, IsKeptWord}
+use Rattle.flat_code.proofs.Routines.Objects.Changing.{word_of, changed}
 use Rattle.flat_actions.specs.Actions.{IsFor, HasGiven, Nowhere, Leaves, views_of, work_of}
 use Rattle.flat_actions.specs.Ranges.{IsObjectRange}
 use Rattle.flat_actions.proofs.Standing.{shown_still, keeps_same}

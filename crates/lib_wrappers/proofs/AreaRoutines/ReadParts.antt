@@ -13,23 +13,23 @@ use Rattle.obj_memory.specs.declared.value.Place.{Place}
 use Rattle.obj_memory.specs.Objects.{ObjectState}
 use Rattle.obj_memory.specs.Integers.{size_of, fit}
 use Rattle.obj_memory.specs.Access.{bytes_at, tag_of, read_value}
-use Rattle.flat_meaning.specs.declared.instruction.FlatInstruction.{FlatInstruction}
-use Rattle.flat_meaning.specs.Memory.{Bytes, put, load}
-use Rattle.flat_meaning.specs.State.{State}
-use Rattle.flat_meaning.specs.Words.{IsOfWords}
-use Rattle.flat_meaning.specs.Meaning.{Context}
-use Rattle.flat_meaning.proofs.Stored.{put_same, put_other, load_fits as loads_fit}
-use Rattle.flat_routines.specs.declared.registers.Held.{Held}
-use Rattle.flat_routines.specs.Registers.{AreDistinct, AreBelow, AreNoneOf, IsNoneOf, OthersStay}
-use Rattle.flat_routines.specs.Renaming.{through}
-use Rattle.flat_routines.specs.Routine.{Does, Either, Never}
-use Rattle.flat_routines.specs.Effects.{effects, with_shown, AreAllowed}
-use Rattle.flat_routines.specs.Metadata.{metadata_at, metadata_in, no_metadata, ShowsNothing, held_registers}
-use Rattle.flat_routines.proofs.Rules.{line}
-use Rattle.flat_routines.proofs.Regions.{laid_out, shadow_not_shown}
-use Rattle.flat_routines.proofs.Showing.{shows_both}
-use Rattle.flat_routines.proofs.Words.{same_metadata}
-use Rattle.flat_routines.specs.Objects.StandsFor.{Views, Keys, spell}
+use Rattle.flat_code.specs.declared.instruction.FlatInstruction.{FlatInstruction}
+use Rattle.flat_code.specs.Memory.{Bytes, put, load}
+use Rattle.flat_code.specs.State.{State}
+use Rattle.flat_code.specs.Words.{IsOfWords}
+use Rattle.flat_code.specs.Meaning.{Context}
+use Rattle.flat_code.proofs.Stored.{put_same, put_other, load_fits as loads_fit}
+use Rattle.flat_code.specs.declared.registers.Held.{Held}
+use Rattle.flat_code.specs.Routines.Registers.{AreDistinct, AreBelow, AreNoneOf, IsNoneOf, OthersStay}
+use Rattle.flat_code.specs.Routines.Renaming.{through}
+use Rattle.flat_code.specs.Routines.Routine.{Does, Either, Never}
+use Rattle.flat_code.specs.Routines.Effects.{effects, with_shown, AreAllowed}
+use Rattle.flat_code.specs.Routines.Metadata.{metadata_at, metadata_in, no_metadata, ShowsNothing, held_registers}
+use Rattle.flat_code.proofs.Routines.Rules.{line}
+use Rattle.flat_code.proofs.Routines.Regions.{laid_out, shadow_not_shown}
+use Rattle.flat_code.proofs.Routines.Showing.{shows_both}
+use Rattle.flat_code.proofs.Routines.Words.{same_metadata}
+use Rattle.flat_code.specs.Routines.Objects.StandsFor.{Views, Keys, spell}
 use Rattle.lock_space.proofs.Spaces.{allowed_at}
 use Rattle.flat_actions.specs.Actions.{registers_of}
 use Rattle.flat_actions.specs.Lists.{give_code}
@@ -41,7 +41,8 @@ use Rattle.lib_wrappers.specs.AccessRoutines.Holding.{holder_in}
 use Rattle.lib_wrappers.specs.AccessRoutines.Accessing.{load_op, load_integer_code}
 use Rattle.lib_wrappers.proofs.AccessRoutines.Places.{number_loaded, load_size, load_fits}
 use Rattle.lib_wrappers.specs.AreaRoutines.Areas.{IsArea, IsAreaPlace, area_bytes, entries_begin}
-use Rattle.lib_wrappers.specs.AreaRoutines.Reading.{IsToReadPart, HasReadPart, IsReadPartRoutine, scalar_of_part, read_word}
+use Rattle.lib_wrappers.specs.AreaRoutines.Reading.{IsToReadPart, HasReadPart, IsReadPartRoutine, scalar_of_part}
+use Rattle.lib_wrappers.specs.AreaRoutines.Reading.{read_word}
 use Rattle.lib_wrappers.specs.AreaRoutines.Reading.{word_held, read_pointer_code, read_part_code}
 use Rattle.lib_wrappers.proofs.AreaRoutines.Bodies.{IsSpaceRange}
 use Rattle.lib_wrappers.proofs.AreaRoutines.Spaces.{structure_space, part_of_area}

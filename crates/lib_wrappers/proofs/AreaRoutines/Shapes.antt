@@ -2,17 +2,18 @@
 use Rattle.std.proofs.Common.{◌≡◌, ℕ, ◌+◌, ◌≤◌, List, [], ◌∷◌, ◌++◌, refl, arith}
 use Rattle.std.proofs.lemmas.Bool.{lt-ltb}
 use Rattle.rv_isa.specs.declared.instruction.BranchOp.TheVariants.{Beq}
-use Rattle.flat_meaning.specs.declared.instruction.RightOperand.TheVariants.{Number}
-use Rattle.flat_meaning.specs.declared.instruction.FlatInstruction.{FlatInstruction}
-use Rattle.flat_routines.specs.declared.registers.Held.{Held}
-use Rattle.flat_routines.specs.Registers.{AreBelow}
-use Rattle.flat_routines.specs.Metadata.{held_registers}
-use Rattle.flat_routines.specs.Shape.{HasShape}
-use Rattle.flat_routines.specs.InputOutput.{IsWithoutInputOutput}
-use Rattle.flat_routines.proofs.Distinct.{below_more}
-use Rattle.flat_routines.proofs.InputOutput.{computes}
-use Rattle.flat_routines.proofs.Shape.{shaped, both}
-use Rattle.flat_routines.proofs.Shape.{piece, piece_behind, shaped_append, shaped_joined, shaped_until, up_to, at_most}
+use Rattle.flat_code.specs.declared.instruction.RightOperand.TheVariants.{Number}
+use Rattle.flat_code.specs.declared.instruction.FlatInstruction.{FlatInstruction}
+use Rattle.flat_code.specs.declared.registers.Held.{Held}
+use Rattle.flat_code.specs.Routines.Registers.{AreBelow}
+use Rattle.flat_code.specs.Routines.Metadata.{held_registers}
+use Rattle.flat_code.specs.Routines.Shape.{HasShape}
+use Rattle.flat_code.specs.Routines.InputOutput.{IsWithoutInputOutput}
+use Rattle.flat_code.proofs.Routines.Distinct.{below_more}
+use Rattle.flat_code.proofs.Routines.InputOutput.{computes}
+use Rattle.flat_code.proofs.Routines.Shape.{shaped, both}
+use Rattle.flat_code.proofs.Routines.Shape.{piece, piece_behind, shaped_append, shaped_joined, shaped_until, up_to}
+use Rattle.flat_code.proofs.Routines.Shape.{at_most}
 use Rattle.flat_actions.specs.Actions.{registers_of}
 use Rattle.flat_actions.specs.Lists.{give_code}
 use Rattle.flat_actions.proofs.Shapes.{pointer_from, give_shape}
@@ -25,7 +26,8 @@ use Rattle.lib_wrappers.specs.AreaRoutines.Loops.{stride, word_loop, zero_body, 
 use Rattle.lib_wrappers.specs.AreaRoutines.Zeroing.{area_words, zero_area_code}
 use Rattle.lib_wrappers.specs.AreaRoutines.Taking.{count_entries, take_entries}
 use Rattle.lib_wrappers.specs.AreaRoutines.Putting.{entry_place, put_entries}
-use Rattle.lib_wrappers.specs.AreaRoutines.Reading.{read_word, word_held, read_pointer_code, read_part_code, read_length}
+use Rattle.lib_wrappers.specs.AreaRoutines.Reading.{read_word, word_held, read_pointer_code, read_part_code}
+use Rattle.lib_wrappers.specs.AreaRoutines.Reading.{read_length}
 use Rattle.lib_wrappers.specs.AreaRoutines.Moving.{count_parts, move_body, count_rest, move_parts, clear_rest}
 
 loop_shape : (t k m : ℕ) (body : List FlatInstruction) → t + 3 ≤ m → HasShape body k m

@@ -6,17 +6,17 @@ use Rattle.std.proofs.lemmas.Bool.{cases_eq, cases_lt, lt-ltb, le-ltb}
 use Rattle.addr_map.specs.Places.{MapSizes, AreMapped, spaces_begin}
 use Rattle.rv_isa.specs.Results.{reg_result, bit_of}
 use Rattle.words.specs.Operations.{product}
-use Rattle.flat_meaning.specs.declared.instruction.FlatInstruction.{FlatInstruction}
-use Rattle.flat_meaning.specs.Memory.{Bytes, put, load, KeepsBut}
-use Rattle.flat_meaning.specs.State.{State}
-use Rattle.flat_meaning.specs.Meaning.{Context}
-use Rattle.flat_meaning.proofs.Stored.{load_kept}
-use Rattle.flat_routines.specs.Registers.{AreBelow, OthersStay}
-use Rattle.flat_routines.specs.Routine.{Does, Either, Never}
-use Rattle.flat_routines.specs.Metadata.{View, metadata_at, no_metadata, IsObjectWord, ShowsNothing}
-use Rattle.flat_routines.proofs.Regions.{laid_out}
-use Rattle.flat_routines.proofs.Showing.{shows_both}
-use Rattle.flat_routines.proofs.Words.{IsLocal, same_metadata, zero_loaded}
+use Rattle.flat_code.specs.declared.instruction.FlatInstruction.{FlatInstruction}
+use Rattle.flat_code.specs.Memory.{Bytes, put, load, KeepsBut}
+use Rattle.flat_code.specs.State.{State}
+use Rattle.flat_code.specs.Meaning.{Context}
+use Rattle.flat_code.proofs.Stored.{load_kept}
+use Rattle.flat_code.specs.Routines.Registers.{AreBelow, OthersStay}
+use Rattle.flat_code.specs.Routines.Routine.{Does, Either, Never}
+use Rattle.flat_code.specs.Routines.Metadata.{View, metadata_at, no_metadata, IsObjectWord, ShowsNothing}
+use Rattle.flat_code.proofs.Routines.Regions.{laid_out}
+use Rattle.flat_code.proofs.Routines.Showing.{shows_both}
+use Rattle.flat_code.proofs.Routines.Words.{IsLocal, same_metadata, zero_loaded}
 use Rattle.shadow_space.specs.Form.{IsReadRoutine}
 use Rattle.flat_actions.specs.Ranges.{IsObjectRange, HasMovedBytes}
 use Rattle.flat_actions.proofs.Standing.{others_trans}

@@ -13,16 +13,16 @@ use Rattle.source_meaning.specs.Actions.{place_or_stop}
 use Rattle.source_meaning.specs.Keeping.{IsDirect}
 use Rattle.source_meaning.specs.Structures.{taken, contents_of, with_contents, make_zero}
 use Rattle.source_meaning.proofs.Holding.{direct_allowed}
-use Rattle.flat_meaning.specs.declared.instruction.FlatInstruction.{FlatInstruction}
-use Rattle.flat_meaning.specs.Memory.{Bytes, KeepsBut}
-use Rattle.flat_meaning.specs.State.{State}
-use Rattle.flat_routines.specs.Routine.{Outcome, Continues, Halts, Either, Never}
-use Rattle.flat_meaning.specs.Meaning.{Goes}
+use Rattle.flat_code.specs.declared.instruction.FlatInstruction.{FlatInstruction}
+use Rattle.flat_code.specs.Memory.{Bytes, KeepsBut}
+use Rattle.flat_code.specs.State.{State}
+use Rattle.flat_code.specs.Routines.Routine.{Outcome, Continues, Halts, Either, Never}
+use Rattle.flat_code.specs.Meaning.{Goes}
 use Rattle.source_meaning.specs.Acting.{state_of}
-use Rattle.flat_routines.specs.Metadata.{View, ShowsNothing}
-use Rattle.flat_routines.proofs.Rules.{weaken}
-use Rattle.flat_routines.proofs.Words.{IsLocal}
-use Rattle.flat_routines.specs.Objects.StandsFor.{Views, Keys}
+use Rattle.flat_code.specs.Routines.Metadata.{View, ShowsNothing}
+use Rattle.flat_code.proofs.Routines.Rules.{weaken}
+use Rattle.flat_code.proofs.Routines.Words.{IsLocal}
+use Rattle.flat_code.specs.Routines.Objects.StandsFor.{Views, Keys}
 use Rattle.flat_actions.specs.Actions.{IsFor, views_of}
 use Rattle.lib_wrappers.proofs.MovingRoutines.Steps.{does_weaken}
 use Rattle.lib_wrappers.proofs.MovingRoutines.Bytes.{in_runtime}
@@ -31,7 +31,8 @@ use Rattle.flat_actions.specs.Ranges.{IsObjectRange}
 use Rattle.lib_wrappers.specs.AreaRoutines.Areas.{IsAreaPlace, IsArea, area_bytes, entries_begin}
 use Rattle.lib_wrappers.specs.AreaRoutines.Zeroing.{IsToZeroArea, HasZeroedArea, IsZeroAreaRoutine}
 use Rattle.lib_wrappers.specs.AreaRoutines.Taking.{HasTaken, IsTakeRangeRoutine}
-use Rattle.lib_wrappers.specs.AreaRoutines.Values.{HasGivenArea, LeavesArea, IsToTakePlace, IsTakeRoutine, IsMakeZeroRoutine}
+use Rattle.lib_wrappers.specs.AreaRoutines.Values.{HasGivenArea, LeavesArea, IsToTakePlace, IsTakeRoutine}
+use Rattle.lib_wrappers.specs.AreaRoutines.Values.{IsMakeZeroRoutine}
 use Rattle.lib_wrappers.specs.AreaRoutines.Values.{work_from}
 use Rattle.lib_wrappers.proofs.AreaRoutines.Behind.{for_behind}
 use Rattle.lib_wrappers.proofs.AreaRoutines.Contents.{area_from, area_of_zeros, contents_size}

@@ -3,20 +3,21 @@ use Rattle.std.proofs.Common.{◌≡◌, ℕ, ◌+◌, ◌-◌, ◌*◌, ◌/◌
 use Rattle.std.proofs.Common.{subst, arith}
 use Rattle.addr_map.specs.Places.{MapSizes, AreMapped}
 use Rattle.rv_isa.specs.Results.{reg_result}
-use Rattle.flat_meaning.specs.declared.instruction.FlatInstruction.{FlatInstruction}
-use Rattle.flat_meaning.specs.Memory.{put, KeepsBut}
-use Rattle.flat_meaning.specs.State.{State}
-use Rattle.flat_meaning.specs.Meaning.{Context}
-use Rattle.flat_routines.specs.Registers.{AreBelow, OthersStay}
-use Rattle.flat_routines.specs.Routine.{Does, Either, Never}
-use Rattle.flat_routines.specs.Metadata.{ShowsNothing}
-use Rattle.flat_routines.proofs.Showing.{shows_both}
+use Rattle.flat_code.specs.declared.instruction.FlatInstruction.{FlatInstruction}
+use Rattle.flat_code.specs.Memory.{put, KeepsBut}
+use Rattle.flat_code.specs.State.{State}
+use Rattle.flat_code.specs.Meaning.{Context}
+use Rattle.flat_code.specs.Routines.Registers.{AreBelow, OthersStay}
+use Rattle.flat_code.specs.Routines.Routine.{Does, Either, Never}
+use Rattle.flat_code.specs.Routines.Metadata.{ShowsNothing}
+use Rattle.flat_code.proofs.Routines.Showing.{shows_both}
 use Rattle.flat_actions.proofs.Standing.{others_trans}
 use Rattle.lib_wrappers.proofs.MovingRoutines.Steps.{both_quiet, quiet_weaken, IsGlued, glued}
 use Rattle.lib_wrappers.proofs.MovingRoutines.Bytes.{in_runtime}
 use Rattle.lib_wrappers.specs.AreaRoutines.Areas.{area_bytes}
 use Rattle.lib_wrappers.specs.AreaRoutines.Loops.{word_loop, zero_body}
-use Rattle.lib_wrappers.specs.AreaRoutines.Zeroing.{IsToZeroArea, HasZeroedArea, IsZeroAreaRoutine, area_words, zero_area_code}
+use Rattle.lib_wrappers.specs.AreaRoutines.Zeroing.{IsToZeroArea, HasZeroedArea, IsZeroAreaRoutine, area_words}
+use Rattle.lib_wrappers.specs.AreaRoutines.Zeroing.{zero_area_code}
 use Rattle.lib_wrappers.proofs.AreaRoutines.WordLoops.{Going, words_all}
 use Rattle.lib_wrappers.proofs.AreaRoutines.Bodies.{IsSpaceRange, AreZeroed, zero_does_word}
 use Rattle.lib_wrappers.proofs.AreaRoutines.Spaces.{structure_space, part_of_area}

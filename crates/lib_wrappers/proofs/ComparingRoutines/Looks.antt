@@ -5,10 +5,10 @@ use Rattle.addr_map.specs.Places.{MapSizes}
 use Rattle.obj_memory.specs.declared.value.Bounds.{Bounds}
 use Rattle.obj_memory.specs.Objects.{Objects, object_at}
 use Rattle.obj_memory.specs.Sound.{IsTagOf}
-use Rattle.flat_meaning.specs.Memory.{Bytes}
-use Rattle.flat_meaning.specs.Spaces.{is_allowed}
-use Rattle.flat_routines.proofs.Regions.{object_allowed}
-use Rattle.flat_routines.specs.Objects.StandsFor.{Views, Keys, StandsFor}
+use Rattle.flat_code.specs.Memory.{Bytes}
+use Rattle.flat_code.specs.Spaces.{is_allowed}
+use Rattle.flat_code.proofs.Routines.Regions.{object_allowed}
+use Rattle.flat_code.specs.Routines.Objects.StandsFor.{Views, Keys, StandsFor}
 
 -- the byte of an object at an address
 abbrev pub byte_of : Objects → (number address : ℕ) → ℕ

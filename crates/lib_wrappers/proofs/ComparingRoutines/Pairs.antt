@@ -20,23 +20,23 @@ use Rattle.source_meaning.specs.State.{State as Source, Outcome as Completed, Gi
 use Rattle.source_meaning.specs.Acting.{at_work, state_of}
 use Rattle.source_meaning.specs.Bytes.{look, order}
 use Rattle.source_meaning.specs.Strings.{go_on, compare_within}
-use Rattle.flat_meaning.specs.declared.instruction.RightOperand.TheVariants.{Register, Number}
-use Rattle.flat_meaning.specs.declared.instruction.FlatInstruction.{FlatInstruction}
-use Rattle.flat_meaning.specs.declared.instruction.FlatInstruction.TheVariants.{Move, Operate}
-use Rattle.flat_meaning.specs.Memory.{put, load}
-use Rattle.flat_meaning.specs.Spaces.{is_allowed}
-use Rattle.flat_meaning.specs.State.{State}
-use Rattle.flat_meaning.specs.Meaning.{Context, Goes}
-use Rattle.flat_routines.specs.declared.registers.Held.{Held}
-use Rattle.flat_routines.specs.Routine.{HasAt, Outcome, Reaches}
-use Rattle.flat_routines.specs.Effects.{worked, effects, AreAllowed}
-use Rattle.flat_routines.specs.Metadata.{ShowsNothing}
-use Rattle.flat_routines.proofs.Steps.{has_self, has_front, has_back}
-use Rattle.flat_routines.proofs.Rules.{weaken, line_on, branch, jump_back, arrived, ended}
-use Rattle.flat_routines.proofs.Branches.{if_equal, if_unequal, if_apart, if_alike}
-use Rattle.flat_routines.proofs.Words.{byte_loaded}
-use Rattle.flat_routines.proofs.Showing.{shows_on}
-use Rattle.flat_routines.specs.Objects.StandsFor.{Views, Keys}
+use Rattle.flat_code.specs.declared.instruction.RightOperand.TheVariants.{Register, Number}
+use Rattle.flat_code.specs.declared.instruction.FlatInstruction.{FlatInstruction}
+use Rattle.flat_code.specs.declared.instruction.FlatInstruction.TheVariants.{Move, Operate}
+use Rattle.flat_code.specs.Memory.{put, load}
+use Rattle.flat_code.specs.Spaces.{is_allowed}
+use Rattle.flat_code.specs.State.{State}
+use Rattle.flat_code.specs.Meaning.{Context, Goes}
+use Rattle.flat_code.specs.declared.registers.Held.{Held}
+use Rattle.flat_code.specs.Routines.Routine.{HasAt, Outcome, Reaches}
+use Rattle.flat_code.specs.Routines.Effects.{worked, effects, AreAllowed}
+use Rattle.flat_code.specs.Routines.Metadata.{ShowsNothing}
+use Rattle.flat_code.proofs.Routines.Steps.{has_self, has_front, has_back}
+use Rattle.flat_code.proofs.Routines.Rules.{weaken, line_on, branch, jump_back, arrived, ended}
+use Rattle.flat_code.proofs.Routines.Branches.{if_equal, if_unequal, if_apart, if_alike}
+use Rattle.flat_code.proofs.Routines.Words.{byte_loaded}
+use Rattle.flat_code.proofs.Routines.Showing.{shows_on}
+use Rattle.flat_code.specs.Routines.Objects.StandsFor.{Views, Keys}
 use Rattle.shadow_space.proofs.Entries.{context_of}
 use Rattle.flat_actions.specs.Judgement.Code.{judge_code}
 use Rattle.flat_actions.specs.Actions.{Word}

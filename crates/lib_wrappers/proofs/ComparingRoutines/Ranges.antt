@@ -11,21 +11,21 @@ use Rattle.obj_memory.specs.declared.value.Value.{Value}
 use Rattle.source_meaning.specs.Actions.{integer}
 use Rattle.source_meaning.specs.Bytes.{order}
 use Rattle.source_meaning.specs.Memory.{pairs_compared, order_of}
-use Rattle.flat_meaning.specs.declared.instruction.RightOperand.TheVariants.{Register, Number}
-use Rattle.flat_meaning.specs.declared.instruction.FlatInstruction.{FlatInstruction}
-use Rattle.flat_meaning.specs.declared.instruction.FlatInstruction.TheVariants.{Move, Operate}
-use Rattle.flat_meaning.specs.Memory.{put, load}
-use Rattle.flat_meaning.specs.Spaces.{is_allowed}
-use Rattle.flat_meaning.specs.State.{State}
-use Rattle.flat_meaning.specs.Meaning.{Context, Goes}
-use Rattle.flat_routines.specs.Routine.{HasAt, Outcome, Reaches, Either, Never}
-use Rattle.flat_routines.specs.Effects.{worked, effects, AreAllowed}
-use Rattle.flat_routines.specs.Metadata.{ShowsNothing}
-use Rattle.flat_routines.proofs.Steps.{has_self, has_front, has_back}
-use Rattle.flat_routines.proofs.Rules.{weaken, line_on, branch, jump_back, arrived}
-use Rattle.flat_routines.proofs.Branches.{if_equal, if_unequal, if_apart, if_alike}
-use Rattle.flat_routines.proofs.Words.{byte_loaded}
-use Rattle.flat_routines.proofs.Showing.{shows_on}
+use Rattle.flat_code.specs.declared.instruction.RightOperand.TheVariants.{Register, Number}
+use Rattle.flat_code.specs.declared.instruction.FlatInstruction.{FlatInstruction}
+use Rattle.flat_code.specs.declared.instruction.FlatInstruction.TheVariants.{Move, Operate}
+use Rattle.flat_code.specs.Memory.{put, load}
+use Rattle.flat_code.specs.Spaces.{is_allowed}
+use Rattle.flat_code.specs.State.{State}
+use Rattle.flat_code.specs.Meaning.{Context, Goes}
+use Rattle.flat_code.specs.Routines.Routine.{HasAt, Outcome, Reaches, Either, Never}
+use Rattle.flat_code.specs.Routines.Effects.{worked, effects, AreAllowed}
+use Rattle.flat_code.specs.Routines.Metadata.{ShowsNothing}
+use Rattle.flat_code.proofs.Routines.Steps.{has_self, has_front, has_back}
+use Rattle.flat_code.proofs.Routines.Rules.{weaken, line_on, branch, jump_back, arrived}
+use Rattle.flat_code.proofs.Routines.Branches.{if_equal, if_unequal, if_apart, if_alike}
+use Rattle.flat_code.proofs.Routines.Words.{byte_loaded}
+use Rattle.flat_code.proofs.Routines.Showing.{shows_on}
 use Rattle.shadow_space.proofs.Entries.{context_of}
 use Rattle.flat_actions.specs.Judgement.Code.{judge_code}
 use Rattle.lib_wrappers.specs.ComparingRoutines.Comparing.{order_code, pair_code, range_loop, memcmp_code}

@@ -23,27 +23,27 @@ use Rattle.source_meaning.specs.Acting.{at_work, state_of}
 use Rattle.source_meaning.specs.Actions.{integer, located}
 use Rattle.source_meaning.specs.Memory.{pairs_compared, order_of, memcmp}
 use Rattle.source_meaning.specs.Library.{argument}
-use Rattle.flat_meaning.specs.declared.instruction.RightOperand.TheVariants.{Number}
-use Rattle.flat_meaning.specs.declared.instruction.FlatInstruction.{FlatInstruction}
-use Rattle.flat_meaning.specs.declared.instruction.FlatInstruction.TheVariants.{Constant}
-use Rattle.flat_meaning.specs.Memory.{Bytes, put}
-use Rattle.flat_meaning.specs.State.{State}
-use Rattle.flat_meaning.specs.Words.{IsOfWords}
-use Rattle.flat_meaning.specs.Meaning.{Context, Goes}
-use Rattle.flat_routines.specs.declared.registers.Held.{Held}
-use Rattle.flat_routines.specs.Registers.{AreNoneOf, AreBelow}
-use Rattle.flat_routines.specs.Routine.{Outcome, Continues, Halts, Reaches, Either, Never}
-use Rattle.flat_routines.specs.Effects.{worked, effects}
-use Rattle.flat_routines.specs.Metadata.{View, metadata_in, held_registers, ShowsNothing}
-use Rattle.flat_routines.proofs.Steps.{has_self}
-use Rattle.flat_routines.proofs.Rules.{weaken, line_on, branch, arrived}
-use Rattle.flat_routines.proofs.Regions.{laid_out, object_allowed}
-use Rattle.flat_routines.proofs.Distinct.{AreRegisters, register_of}
-use Rattle.flat_routines.proofs.Words.{same_metadata}
-use Rattle.flat_routines.proofs.Branches.{if_equal, if_unequal}
-use Rattle.flat_routines.specs.Objects.StandsFor.{Views, Keys, Spells, StandsFor}
+use Rattle.flat_code.specs.declared.instruction.RightOperand.TheVariants.{Number}
+use Rattle.flat_code.specs.declared.instruction.FlatInstruction.{FlatInstruction}
+use Rattle.flat_code.specs.declared.instruction.FlatInstruction.TheVariants.{Constant}
+use Rattle.flat_code.specs.Memory.{Bytes, put}
+use Rattle.flat_code.specs.State.{State}
+use Rattle.flat_code.specs.Words.{IsOfWords}
+use Rattle.flat_code.specs.Meaning.{Context, Goes}
+use Rattle.flat_code.specs.declared.registers.Held.{Held}
+use Rattle.flat_code.specs.Routines.Registers.{AreNoneOf, AreBelow}
+use Rattle.flat_code.specs.Routines.Routine.{Outcome, Continues, Halts, Reaches, Either, Never}
+use Rattle.flat_code.specs.Routines.Effects.{worked, effects}
+use Rattle.flat_code.specs.Routines.Metadata.{View, metadata_in, held_registers, ShowsNothing}
+use Rattle.flat_code.proofs.Routines.Steps.{has_self}
+use Rattle.flat_code.proofs.Routines.Rules.{weaken, line_on, branch, arrived}
+use Rattle.flat_code.proofs.Routines.Regions.{laid_out, object_allowed}
+use Rattle.flat_code.proofs.Routines.Distinct.{AreRegisters, register_of}
+use Rattle.flat_code.proofs.Routines.Words.{same_metadata}
+use Rattle.flat_code.proofs.Routines.Branches.{if_equal, if_unequal}
+use Rattle.flat_code.specs.Routines.Objects.StandsFor.{Views, Keys, Spells, StandsFor}
 use Rattle.shadow_space.proofs.Entries.{context_of}
-use Rattle.flat_routines.proofs.Spaces.Quiet.{quiet_words, worked_words}
+use Rattle.flat_code.proofs.Routines.Spaces.Quiet.{quiet_words, worked_words}
 use Rattle.flat_actions.specs.Judgement.Judging.{IsSameBut, IsJudged}
 use Rattle.flat_actions.proofs.Judgement.Judges.{judges}
 use Rattle.flat_actions.specs.Actions.{ChangesNothing}

@@ -17,24 +17,24 @@ use Rattle.source_meaning.specs.Acting.{state_of}
 use Rattle.source_meaning.specs.Actions.{integer}
 use Rattle.source_meaning.specs.Strings.{reach, seek_within, strchr}
 use Rattle.source_meaning.specs.Library.{argument}
-use Rattle.flat_meaning.specs.declared.instruction.FlatInstruction.{FlatInstruction}
-use Rattle.flat_meaning.specs.declared.instruction.FlatInstruction.TheVariants.{Constant}
-use Rattle.flat_meaning.specs.Memory.{Bytes, put}
-use Rattle.flat_meaning.specs.State.{State}
-use Rattle.flat_meaning.specs.Words.{IsOfWords}
-use Rattle.flat_meaning.specs.Meaning.{Context, Goes}
-use Rattle.flat_routines.specs.declared.registers.Held.{Held}
-use Rattle.flat_routines.specs.Registers.{AreNoneOf, AreDistinct, AreBelow}
-use Rattle.flat_routines.specs.Routine.{Outcome, Reaches}
-use Rattle.flat_routines.specs.Effects.{effects}
-use Rattle.flat_routines.specs.Metadata.{View, metadata_in, held_registers, ShowsNothing}
-use Rattle.flat_routines.proofs.Steps.{has_self, has_front}
-use Rattle.flat_routines.proofs.Rules.{weaken, line_on}
-use Rattle.flat_routines.proofs.Distinct.{AreRegisters, register_of}
-use Rattle.flat_routines.proofs.Words.{same_metadata}
-use Rattle.flat_routines.specs.Objects.StandsFor.{Views, Keys, spell, Spells}
+use Rattle.flat_code.specs.declared.instruction.FlatInstruction.{FlatInstruction}
+use Rattle.flat_code.specs.declared.instruction.FlatInstruction.TheVariants.{Constant}
+use Rattle.flat_code.specs.Memory.{Bytes, put}
+use Rattle.flat_code.specs.State.{State}
+use Rattle.flat_code.specs.Words.{IsOfWords}
+use Rattle.flat_code.specs.Meaning.{Context, Goes}
+use Rattle.flat_code.specs.declared.registers.Held.{Held}
+use Rattle.flat_code.specs.Routines.Registers.{AreNoneOf, AreDistinct, AreBelow}
+use Rattle.flat_code.specs.Routines.Routine.{Outcome, Reaches}
+use Rattle.flat_code.specs.Routines.Effects.{effects}
+use Rattle.flat_code.specs.Routines.Metadata.{View, metadata_in, held_registers, ShowsNothing}
+use Rattle.flat_code.proofs.Routines.Steps.{has_self, has_front}
+use Rattle.flat_code.proofs.Routines.Rules.{weaken, line_on}
+use Rattle.flat_code.proofs.Routines.Distinct.{AreRegisters, register_of}
+use Rattle.flat_code.proofs.Routines.Words.{same_metadata}
+use Rattle.flat_code.specs.Routines.Objects.StandsFor.{Views, Keys, spell, Spells}
 use Rattle.shadow_space.proofs.Entries.{context_of}
-use Rattle.flat_routines.proofs.Spaces.Quiet.{quiet_words}
+use Rattle.flat_code.proofs.Routines.Spaces.Quiet.{quiet_words}
 use Rattle.flat_actions.specs.Judgement.Judging.{IsSameBut, IsJudged}
 use Rattle.flat_actions.specs.Judgement.Code.{judge_code}
 use Rattle.flat_actions.proofs.Judgement.Judges.{judges}

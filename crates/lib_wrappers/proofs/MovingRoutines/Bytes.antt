@@ -5,21 +5,21 @@ use Rattle.addr_map.specs.Places.{MapSizes}
 use Rattle.rv_isa.specs.declared.instruction.LoadOp.TheVariants.{Lbu}
 use Rattle.rv_isa.specs.declared.instruction.StoreOp.TheVariants.{Sb}
 use Rattle.rv_isa.specs.Results.{extended}
-use Rattle.flat_meaning.specs.declared.instruction.FlatInstruction.{FlatInstruction}
-use Rattle.flat_meaning.specs.declared.instruction.FlatInstruction.TheVariants.{Load, Store}
-use Rattle.flat_meaning.specs.Memory.{Bytes, put, load, store}
-use Rattle.flat_meaning.specs.Spaces.{is_allowed}
-use Rattle.flat_meaning.specs.State.{State}
-use Rattle.flat_meaning.specs.Words.{IsOfWords}
-use Rattle.flat_meaning.specs.Meaning.{Context}
-use Rattle.flat_meaning.proofs.Stored.{put_same, put_other}
-use Rattle.flat_routines.specs.Registers.{AreBelow}
-use Rattle.flat_routines.specs.Routine.{Does, Either, Never}
-use Rattle.flat_routines.specs.Renaming.{through}
-use Rattle.flat_routines.specs.Effects.{AreAllowed}
-use Rattle.flat_routines.proofs.Regions.{IsLaidOut, object_allowed}
-use Rattle.flat_routines.proofs.Showing.{shows_both}
-use Rattle.flat_routines.proofs.Words.{byte_loaded}
+use Rattle.flat_code.specs.declared.instruction.FlatInstruction.{FlatInstruction}
+use Rattle.flat_code.specs.declared.instruction.FlatInstruction.TheVariants.{Load, Store}
+use Rattle.flat_code.specs.Memory.{Bytes, put, load, store}
+use Rattle.flat_code.specs.Spaces.{is_allowed}
+use Rattle.flat_code.specs.State.{State}
+use Rattle.flat_code.specs.Words.{IsOfWords}
+use Rattle.flat_code.specs.Meaning.{Context}
+use Rattle.flat_code.proofs.Stored.{put_same, put_other}
+use Rattle.flat_code.specs.Routines.Registers.{AreBelow}
+use Rattle.flat_code.specs.Routines.Routine.{Does, Either, Never}
+use Rattle.flat_code.specs.Routines.Renaming.{through}
+use Rattle.flat_code.specs.Routines.Effects.{AreAllowed}
+use Rattle.flat_code.proofs.Routines.Regions.{IsLaidOut, object_allowed}
+use Rattle.flat_code.proofs.Routines.Showing.{shows_both}
+use Rattle.flat_code.proofs.Routines.Words.{byte_loaded}
 use Rattle.flat_actions.specs.Ranges.{IsObjectRange, IsToMove, HasMovedBytes, IsByteMoveRoutine}
 use Rattle.flat_actions.proofs.Standing.{others_trans}
 use Rattle.lib_wrappers.specs.MovingRoutines.Copying.{OneByte, Cells, AreCells, HasCopied, IsToCopy, CopiesOne}

@@ -3,23 +3,23 @@ use Rattle.std.proofs.Common.{◌≡◌, ℕ, suc, ◌+◌, ◌-◌, ◌*◌, �
 use Rattle.std.proofs.Common.{◌∷◌, length, refl, sym, ap, ◌∙◌, subst, arith}
 use Rattle.rv_isa.specs.declared.instruction.BranchOp.TheVariants.{Bgeu}
 use Rattle.rv_isa.specs.Results.{reg_result}
-use Rattle.flat_meaning.specs.declared.instruction.RightOperand.TheVariants.{Register}
-use Rattle.flat_meaning.specs.declared.instruction.FlatInstruction.{FlatInstruction}
-use Rattle.flat_meaning.specs.declared.instruction.FlatInstruction.TheVariants.{Constant}
-use Rattle.flat_meaning.specs.Memory.{put}
-use Rattle.flat_meaning.specs.State.{State}
-use Rattle.flat_meaning.specs.Words.{IsOfWords}
-use Rattle.flat_meaning.specs.Meaning.{Context, Goes}
-use Rattle.flat_routines.specs.Registers.{OthersStay}
-use Rattle.flat_routines.specs.Routine.{Does, Either, Never, Reaches, HasAt}
-use Rattle.flat_routines.specs.Effects.{worked, effects}
-use Rattle.flat_routines.specs.Renaming.{through}
-use Rattle.flat_routines.specs.Metadata.{ShowsNothing}
-use Rattle.flat_routines.proofs.Steps.{has_self}
-use Rattle.flat_routines.proofs.Rules.{branch, line_on, arrived}
-use Rattle.flat_routines.proofs.Distinct.{registers_rename, others_stay}
-use Rattle.flat_routines.proofs.Wrapped.{routine}
-use Rattle.flat_routines.proofs.Branches.{if_not_below, if_below}
+use Rattle.flat_code.specs.declared.instruction.RightOperand.TheVariants.{Register}
+use Rattle.flat_code.specs.declared.instruction.FlatInstruction.{FlatInstruction}
+use Rattle.flat_code.specs.declared.instruction.FlatInstruction.TheVariants.{Constant}
+use Rattle.flat_code.specs.Memory.{put}
+use Rattle.flat_code.specs.State.{State}
+use Rattle.flat_code.specs.Words.{IsOfWords}
+use Rattle.flat_code.specs.Meaning.{Context, Goes}
+use Rattle.flat_code.specs.Routines.Registers.{OthersStay}
+use Rattle.flat_code.specs.Routines.Routine.{Does, Either, Never, Reaches, HasAt}
+use Rattle.flat_code.specs.Routines.Effects.{worked, effects}
+use Rattle.flat_code.specs.Routines.Renaming.{through}
+use Rattle.flat_code.specs.Routines.Metadata.{ShowsNothing}
+use Rattle.flat_code.proofs.Routines.Steps.{has_self}
+use Rattle.flat_code.proofs.Routines.Rules.{branch, line_on, arrived}
+use Rattle.flat_code.proofs.Routines.Distinct.{registers_rename, others_stay}
+use Rattle.flat_code.proofs.Routines.Wrapped.{routine}
+use Rattle.flat_code.proofs.Routines.Branches.{if_not_below, if_below}
 use Rattle.shadow_space.proofs.Entries.{agrees_shows, agrees_memory}
 use Rattle.lib_wrappers.specs.MovingRoutines.Copying.{CellSize, OneByte, OneWord, unit_of, shift_of, Cells, AreCells}
 use Rattle.lib_wrappers.specs.MovingRoutines.Copying.{CopiesOne}

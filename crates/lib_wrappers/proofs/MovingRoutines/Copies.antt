@@ -11,17 +11,17 @@ use Rattle.obj_memory.specs.Sound.{IsAllowed}
 use Rattle.source_meaning.specs.State.{State as Source, Outcome as Completed, Gives, ◌>>◌, done, on}
 use Rattle.source_meaning.specs.Actions.{integer, copy_structure, place_or_stop, move_bytes}
 use Rattle.source_meaning.specs.Keeping.{IsDirect}
-use Rattle.flat_meaning.specs.declared.instruction.FlatInstruction.{FlatInstruction}
-use Rattle.flat_meaning.specs.declared.instruction.FlatInstruction.TheVariants.{Constant}
-use Rattle.flat_meaning.specs.Memory.{Bytes, put}
-use Rattle.flat_meaning.specs.State.{State}
-use Rattle.flat_meaning.specs.Meaning.{Context, Goes}
-use Rattle.flat_routines.specs.declared.registers.Held.{Held}
-use Rattle.flat_routines.specs.Registers.{AreBelow}
-use Rattle.flat_routines.specs.Routine.{Outcome, Continues, Halts, Does, Either, Never}
-use Rattle.flat_routines.specs.Metadata.{View, held_registers}
-use Rattle.flat_routines.proofs.Rules.{weaken}
-use Rattle.flat_routines.specs.Objects.StandsFor.{Views, Keys}
+use Rattle.flat_code.specs.declared.instruction.FlatInstruction.{FlatInstruction}
+use Rattle.flat_code.specs.declared.instruction.FlatInstruction.TheVariants.{Constant}
+use Rattle.flat_code.specs.Memory.{Bytes, put}
+use Rattle.flat_code.specs.State.{State}
+use Rattle.flat_code.specs.Meaning.{Context, Goes}
+use Rattle.flat_code.specs.declared.registers.Held.{Held}
+use Rattle.flat_code.specs.Routines.Registers.{AreBelow}
+use Rattle.flat_code.specs.Routines.Routine.{Outcome, Continues, Halts, Does, Either, Never}
+use Rattle.flat_code.specs.Routines.Metadata.{View, held_registers}
+use Rattle.flat_code.proofs.Routines.Rules.{weaken}
+use Rattle.flat_code.specs.Routines.Objects.StandsFor.{Views, Keys}
 use Rattle.flat_actions.specs.Judgement.Judging.{IsSameBut}
 use Rattle.flat_actions.specs.Actions.{views_of, AreSpacesGood, IsFor, Nowhere, Leaves, runtime_basis}
 use Rattle.flat_actions.specs.Ranges.{IsObjectRange, IsToMove, HasMovedTagged, IsTaggedMoveRoutine}

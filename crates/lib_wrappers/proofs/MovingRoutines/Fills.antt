@@ -5,18 +5,18 @@ use Rattle.std.proofs.lemmas.Bool.{cases_eq}
 use Rattle.addr_map.specs.Places.{MapSizes}
 use Rattle.rv_isa.specs.declared.instruction.BranchOp.TheVariants.{Beq}
 use Rattle.rv_isa.specs.Results.{reg_result}
-use Rattle.flat_meaning.specs.declared.instruction.RightOperand.TheVariants.{Register}
-use Rattle.flat_meaning.specs.Memory.{put, store, Beside}
-use Rattle.flat_meaning.specs.State.{State}
-use Rattle.flat_meaning.specs.Meaning.{Context}
-use Rattle.flat_routines.specs.Registers.{AreBelow, OthersStay}
-use Rattle.flat_routines.specs.Routine.{Does, Either, Never, until_code}
-use Rattle.flat_routines.specs.Renaming.{through}
-use Rattle.flat_routines.specs.Effects.{worked, AreAllowed}
-use Rattle.flat_routines.specs.Metadata.{ShowsNothing}
-use Rattle.flat_routines.proofs.Regions.{IsLaidOut, object_allowed}
-use Rattle.flat_routines.proofs.Branches.{are_equal, are_not_equal}
-use Rattle.flat_routines.proofs.Showing.{shows_both}
+use Rattle.flat_code.specs.declared.instruction.RightOperand.TheVariants.{Register}
+use Rattle.flat_code.specs.Memory.{put, store, Beside}
+use Rattle.flat_code.specs.State.{State}
+use Rattle.flat_code.specs.Meaning.{Context}
+use Rattle.flat_code.specs.Routines.Registers.{AreBelow, OthersStay}
+use Rattle.flat_code.specs.Routines.Routine.{Does, Either, Never, until_code}
+use Rattle.flat_code.specs.Routines.Renaming.{through}
+use Rattle.flat_code.specs.Routines.Effects.{worked, AreAllowed}
+use Rattle.flat_code.specs.Routines.Metadata.{ShowsNothing}
+use Rattle.flat_code.proofs.Routines.Regions.{IsLaidOut, object_allowed}
+use Rattle.flat_code.proofs.Routines.Branches.{are_equal, are_not_equal}
+use Rattle.flat_code.proofs.Routines.Showing.{shows_both}
 use Rattle.flat_actions.specs.Ranges.{IsObjectRange, IsToFill, HasFilled, IsFillRoutine}
 use Rattle.lib_wrappers.specs.MovingRoutines.Filling.{fill_places, fill_body, fill_code}
 use Rattle.lib_wrappers.proofs.MovingRoutines.Steps.{both_quiet, quiet_weaken, until_does, IsGlued, glued, named}

@@ -10,24 +10,24 @@ use Rattle.obj_memory.specs.Objects.{Objects}
 use Rattle.obj_memory.specs.Sound.{IsSoundTag}
 use Rattle.source_meaning.specs.State.{State as Source, Outcome as Completed, Gives, Ended, Paused, Run, choose, done}
 use Rattle.source_meaning.specs.Bytes.{unless_empty}
-use Rattle.flat_meaning.specs.declared.instruction.RightOperand.TheVariants.{Number}
-use Rattle.flat_meaning.specs.declared.instruction.FlatInstruction.{FlatInstruction}
-use Rattle.flat_meaning.specs.declared.instruction.FlatInstruction.TheVariants.{Move}
-use Rattle.flat_meaning.specs.Memory.{Bytes, put}
-use Rattle.flat_meaning.specs.State.{State}
-use Rattle.flat_meaning.specs.Meaning.{Context}
-use Rattle.flat_routines.specs.declared.registers.Held.{Held}
-use Rattle.flat_routines.specs.Registers.{AreBelow, AreNoneOf, AreDistinct, OthersStay}
-use Rattle.flat_routines.specs.Routine.{Outcome, Continues, Halts, Does, Either, Never, unless_code}
-use Rattle.flat_routines.specs.Effects.{worked, effects}
-use Rattle.flat_routines.specs.Renaming.{through, Agrees}
-use Rattle.flat_routines.specs.Metadata.{held_registers, metadata_in, ShowsNothing}
-use Rattle.flat_routines.proofs.Rules.{Holds, taken, in_sequence}
-use Rattle.flat_routines.proofs.Distinct.{AreRegisters, register_of, registers_rename, others_stay}
-use Rattle.flat_routines.proofs.Words.{same_metadata}
-use Rattle.flat_routines.proofs.Wrapped.{straight_routine}
-use Rattle.flat_routines.proofs.Branches.{if_equal, if_unequal}
-use Rattle.flat_routines.specs.Objects.StandsFor.{Views, Keys, Spells, spell}
+use Rattle.flat_code.specs.declared.instruction.RightOperand.TheVariants.{Number}
+use Rattle.flat_code.specs.declared.instruction.FlatInstruction.{FlatInstruction}
+use Rattle.flat_code.specs.declared.instruction.FlatInstruction.TheVariants.{Move}
+use Rattle.flat_code.specs.Memory.{Bytes, put}
+use Rattle.flat_code.specs.State.{State}
+use Rattle.flat_code.specs.Meaning.{Context}
+use Rattle.flat_code.specs.declared.registers.Held.{Held}
+use Rattle.flat_code.specs.Routines.Registers.{AreBelow, AreNoneOf, AreDistinct, OthersStay}
+use Rattle.flat_code.specs.Routines.Routine.{Outcome, Continues, Halts, Does, Either, Never, unless_code}
+use Rattle.flat_code.specs.Routines.Effects.{worked, effects}
+use Rattle.flat_code.specs.Routines.Renaming.{through, Agrees}
+use Rattle.flat_code.specs.Routines.Metadata.{held_registers, metadata_in, ShowsNothing}
+use Rattle.flat_code.proofs.Routines.Rules.{Holds, taken, in_sequence}
+use Rattle.flat_code.proofs.Routines.Distinct.{AreRegisters, register_of, registers_rename, others_stay}
+use Rattle.flat_code.proofs.Routines.Words.{same_metadata}
+use Rattle.flat_code.proofs.Routines.Wrapped.{straight_routine}
+use Rattle.flat_code.proofs.Routines.Branches.{if_equal, if_unequal}
+use Rattle.flat_code.specs.Routines.Objects.StandsFor.{Views, Keys, Spells, spell}
 use Rattle.flat_actions.specs.Judgement.Judging.{IsSameBut}
 use Rattle.flat_actions.specs.Actions.{IsFor, KeepsHeld, Nowhere, Pointer, HasGiven, Leaves}
 use Rattle.flat_actions.proofs.Standing.{for_still, given_still, spells_still, none_of_none, others_trans}

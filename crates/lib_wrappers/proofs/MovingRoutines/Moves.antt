@@ -15,15 +15,15 @@ use Rattle.obj_memory.specs.Sound.{IsAllowed, KeepsObjects}
 use Rattle.obj_memory.proofs.Listed.{every_replicate}
 use Rattle.obj_memory.proofs.Keeping.{keeps_moved, keeps_bytes}
 use Rattle.source_meaning.specs.State.{State as Source}
-use Rattle.flat_meaning.specs.Memory.{Bytes, KeepsBut}
-use Rattle.flat_meaning.specs.State.{State}
-use Rattle.flat_routines.specs.Registers.{OthersStay}
-use Rattle.flat_routines.specs.Metadata.{View, ShowsNothing}
-use Rattle.flat_routines.proofs.Regions.{laid_out}
-use Rattle.flat_routines.proofs.Words.{IsLocal}
-use Rattle.flat_routines.specs.Objects.StandsFor.{Views, Keys, StandsFor}
-use Rattle.flat_routines.specs.Objects.Changes.{IsPut, IsMoved}
-use Rattle.flat_routines.proofs.Objects.Moves.{move_stands, put_stands}
+use Rattle.flat_code.specs.Memory.{Bytes, KeepsBut}
+use Rattle.flat_code.specs.State.{State}
+use Rattle.flat_code.specs.Routines.Registers.{OthersStay}
+use Rattle.flat_code.specs.Routines.Metadata.{View, ShowsNothing}
+use Rattle.flat_code.proofs.Routines.Regions.{laid_out}
+use Rattle.flat_code.proofs.Routines.Words.{IsLocal}
+use Rattle.flat_code.specs.Routines.Objects.StandsFor.{Views, Keys, StandsFor}
+use Rattle.flat_code.specs.Routines.Objects.Changes.{IsPut, IsMoved}
+use Rattle.flat_code.proofs.Routines.Objects.Moves.{move_stands, put_stands}
 use Rattle.flat_actions.specs.Actions.{views_of, IsFor, StaysElsewhere, Nowhere, HasGiven}
 use Rattle.flat_actions.specs.Ranges.{IsObjectRange, HasMovedBytes, HasMovedTagged, HasFilled}
 use Rattle.flat_actions.proofs.Standing.{shown_still, keeps_same}

@@ -16,17 +16,17 @@ use Rattle.source_meaning.specs.State.{State as Source, Gives, Run, ◌>>=◌, �
 use Rattle.source_meaning.specs.Actions.{located}
 use Rattle.source_meaning.specs.Bytes.{set_bytes}
 use Rattle.source_meaning.specs.Memory.{memset}
-use Rattle.flat_meaning.specs.declared.instruction.FlatInstruction.{FlatInstruction}
-use Rattle.flat_meaning.specs.Memory.{Bytes}
-use Rattle.flat_meaning.specs.State.{State}
-use Rattle.flat_meaning.specs.Meaning.{Context}
-use Rattle.flat_routines.specs.declared.registers.Held.{Held}
-use Rattle.flat_routines.specs.Registers.{AreBelow, AreNoneOf, AreDistinct}
-use Rattle.flat_routines.specs.Routine.{Outcome, Continues, Halts, Does, Either, Never}
-use Rattle.flat_routines.specs.Effects.{worked}
-use Rattle.flat_routines.specs.Metadata.{View, held_registers}
-use Rattle.flat_routines.proofs.Words.{IsLocal}
-use Rattle.flat_routines.specs.Objects.StandsFor.{Views, Keys}
+use Rattle.flat_code.specs.declared.instruction.FlatInstruction.{FlatInstruction}
+use Rattle.flat_code.specs.Memory.{Bytes}
+use Rattle.flat_code.specs.State.{State}
+use Rattle.flat_code.specs.Meaning.{Context}
+use Rattle.flat_code.specs.declared.registers.Held.{Held}
+use Rattle.flat_code.specs.Routines.Registers.{AreBelow, AreNoneOf, AreDistinct}
+use Rattle.flat_code.specs.Routines.Routine.{Outcome, Continues, Halts, Does, Either, Never}
+use Rattle.flat_code.specs.Routines.Effects.{worked}
+use Rattle.flat_code.specs.Routines.Metadata.{View, held_registers}
+use Rattle.flat_code.proofs.Routines.Words.{IsLocal}
+use Rattle.flat_code.specs.Routines.Objects.StandsFor.{Views, Keys}
 use Rattle.flat_actions.specs.Judgement.Judging.{IsSameBut, IsToJudge, IsJudged, IsJudgeRoutine}
 use Rattle.flat_actions.specs.Actions.{views_of, IsFor, Nowhere, Pointer, Leaves, runtime_basis}
 use Rattle.flat_actions.specs.Ranges.{IsObjectRange, IsToFill, HasFilled, IsFillRoutine}

@@ -3,20 +3,21 @@
 use Rattle.std.proofs.Common.{◌≡◌, ℕ, zero, suc, ◌+◌, ◌-◌, ◌*◌, ◌^◌, ◌<◌, ◌≤◌, List, [], ◌∷◌, ◌++◌, true, false, map}
 use Rattle.std.proofs.Common.{length, refl, arith, inl, inr}
 use Rattle.rv_isa.specs.declared.instruction.BranchOp.{BranchOp}
-use Rattle.flat_meaning.specs.declared.instruction.RightOperand.{RightOperand}
-use Rattle.flat_meaning.specs.declared.instruction.FlatInstruction.{FlatInstruction}
-use Rattle.flat_meaning.specs.declared.instruction.FlatInstruction.TheVariants.{JumpBack}
-use Rattle.flat_meaning.specs.State.{State}
-use Rattle.flat_meaning.specs.Words.{IsOfWords}
-use Rattle.flat_meaning.specs.Meaning.{Context, Goes}
-use Rattle.flat_routines.specs.Registers.{IsNoneOf, AreDistinct, AreBelow, OthersStay}
-use Rattle.flat_routines.specs.Routine.{Outcome, Continues, Halts, Does, Either, Never, unless_code, until_code, HasAt}
-use Rattle.flat_routines.specs.Effects.{worked, effects, AreAllowed}
-use Rattle.flat_routines.specs.Renaming.{rename, all_fit, through}
-use Rattle.flat_routines.proofs.Steps.{has_front}
-use Rattle.flat_routines.proofs.Rules.{Holds, taken, weaken, unless, loop, in_sequence, Turns}
-use Rattle.flat_routines.proofs.Distinct.{AreFrom, AreRegisters, register_of, registers_rename, others_stay}
-use Rattle.flat_routines.proofs.Wrapped.{straight_routine}
+use Rattle.flat_code.specs.declared.instruction.RightOperand.{RightOperand}
+use Rattle.flat_code.specs.declared.instruction.FlatInstruction.{FlatInstruction}
+use Rattle.flat_code.specs.declared.instruction.FlatInstruction.TheVariants.{JumpBack}
+use Rattle.flat_code.specs.State.{State}
+use Rattle.flat_code.specs.Words.{IsOfWords}
+use Rattle.flat_code.specs.Meaning.{Context, Goes}
+use Rattle.flat_code.specs.Routines.Registers.{IsNoneOf, AreDistinct, AreBelow, OthersStay}
+use Rattle.flat_code.specs.Routines.Routine.{Outcome, Continues, Halts, Does, Either, Never, unless_code, until_code}
+use Rattle.flat_code.specs.Routines.Routine.{HasAt}
+use Rattle.flat_code.specs.Routines.Effects.{worked, effects, AreAllowed}
+use Rattle.flat_code.specs.Routines.Renaming.{rename, all_fit, through}
+use Rattle.flat_code.proofs.Routines.Steps.{has_front}
+use Rattle.flat_code.proofs.Routines.Rules.{Holds, taken, weaken, unless, loop, in_sequence, Turns}
+use Rattle.flat_code.proofs.Routines.Distinct.{AreFrom, AreRegisters, register_of, registers_rename, others_stay}
+use Rattle.flat_code.proofs.Routines.Wrapped.{straight_routine}
 use Rattle.flat_actions.proofs.Standing.{none_of_none}
 
 -- ---- one after another

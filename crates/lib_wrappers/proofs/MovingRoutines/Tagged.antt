@@ -3,18 +3,18 @@ use Rattle.std.proofs.Common.{◌≡◌, ℕ, ◌+◌, ◌-◌, ◌*◌, ◌<◌
 use Rattle.std.proofs.Common.{◌∷◌, ◌++◌, sym, ◌∙◌, subst, arith}
 use Rattle.addr_map.specs.declared.region.Region.TheVariants.{Heap, Shadow, StructureValues}
 use Rattle.addr_map.specs.Places.{MapSizes, AreMapped, spaces_begin, region_size, region_start, region_end}
-use Rattle.flat_meaning.specs.declared.instruction.FlatInstruction.{FlatInstruction}
-use Rattle.flat_meaning.specs.Memory.{Bytes, KeepsBut}
-use Rattle.flat_meaning.specs.State.{State}
-use Rattle.flat_meaning.specs.Meaning.{Context}
-use Rattle.flat_routines.specs.Registers.{AreBelow}
-use Rattle.flat_routines.specs.Routine.{Does, Either, Never}
-use Rattle.flat_routines.specs.Metadata.{View, KeepsShadow}
-use Rattle.flat_routines.proofs.Regions.{IsLaidOut, laid_out, spaces_follow}
-use Rattle.flat_routines.proofs.Showing.{shows_both}
-use Rattle.flat_routines.proofs.Words.{IsLocal}
-use Rattle.flat_routines.specs.Objects.Changes.{KeepsTables}
-use Rattle.flat_routines.proofs.Objects.Changing.{global_is_lock}
+use Rattle.flat_code.specs.declared.instruction.FlatInstruction.{FlatInstruction}
+use Rattle.flat_code.specs.Memory.{Bytes, KeepsBut}
+use Rattle.flat_code.specs.State.{State}
+use Rattle.flat_code.specs.Meaning.{Context}
+use Rattle.flat_code.specs.Routines.Registers.{AreBelow}
+use Rattle.flat_code.specs.Routines.Routine.{Does, Either, Never}
+use Rattle.flat_code.specs.Routines.Metadata.{View, KeepsShadow}
+use Rattle.flat_code.proofs.Routines.Regions.{IsLaidOut, laid_out, spaces_follow}
+use Rattle.flat_code.proofs.Routines.Showing.{shows_both}
+use Rattle.flat_code.proofs.Routines.Words.{IsLocal}
+use Rattle.flat_code.specs.Routines.Objects.Changes.{KeepsTables}
+use Rattle.flat_code.proofs.Routines.Objects.Changing.{global_is_lock}
 use Rattle.lock_space.specs.Locks.{KeepsLocks}
 use Rattle.lock_space.proofs.Spaces.{locks_laid_out}
 use Rattle.lock_space.proofs.Local.{lock_kept, counter_kept, good_kept as locks_kept}

@@ -6,25 +6,25 @@ use Rattle.addr_map.specs.Places.{MapSizes}
 use Rattle.rv_isa.specs.declared.instruction.BranchOp.TheVariants.{Bne, Bgeu}
 use Rattle.rv_isa.specs.declared.instruction.RegOp.TheVariants.{Add, Sub, Sll, Srl}
 use Rattle.rv_isa.specs.Results.{reg_result}
-use Rattle.flat_meaning.specs.declared.instruction.RightOperand.TheVariants.{Register, Number}
-use Rattle.flat_meaning.specs.declared.instruction.FlatInstruction.{FlatInstruction}
-use Rattle.flat_meaning.specs.declared.instruction.FlatInstruction.TheVariants.{Constant, Operate}
-use Rattle.flat_meaning.specs.Memory.{Bytes, put}
-use Rattle.flat_meaning.specs.State.{State}
-use Rattle.flat_meaning.specs.Meaning.{Context, Goes}
-use Rattle.flat_routines.specs.Registers.{AreBelow, OthersStay, IsNoneOf}
-use Rattle.flat_routines.specs.Routine.{Does, Either, Never, Reaches, Outcome}
-use Rattle.flat_routines.specs.Effects.{worked, effects}
-use Rattle.flat_routines.specs.Renaming.{through, Agrees}
-use Rattle.flat_routines.specs.Metadata.{View, IsObjectWord, KeepsButShadow, ShowsNothing, entry_registers}
-use Rattle.flat_routines.proofs.Steps.{has_self}
-use Rattle.flat_routines.proofs.Rules.{branch, line_on, arrived}
-use Rattle.flat_routines.proofs.Distinct.{registers_rename, others_stay}
-use Rattle.flat_routines.proofs.Wrapped.{routine}
-use Rattle.flat_routines.proofs.Regions.{IsLaidOut}
-use Rattle.flat_routines.proofs.Branches.{if_not_below, if_below, if_differ, if_same}
-use Rattle.flat_routines.proofs.Showing.{shows_both}
-use Rattle.flat_routines.specs.Objects.Changes.{IsMovedWord, IsKeptWord}
+use Rattle.flat_code.specs.declared.instruction.RightOperand.TheVariants.{Register, Number}
+use Rattle.flat_code.specs.declared.instruction.FlatInstruction.{FlatInstruction}
+use Rattle.flat_code.specs.declared.instruction.FlatInstruction.TheVariants.{Constant, Operate}
+use Rattle.flat_code.specs.Memory.{Bytes, put}
+use Rattle.flat_code.specs.State.{State}
+use Rattle.flat_code.specs.Meaning.{Context, Goes}
+use Rattle.flat_code.specs.Routines.Registers.{AreBelow, OthersStay, IsNoneOf}
+use Rattle.flat_code.specs.Routines.Routine.{Does, Either, Never, Reaches, Outcome}
+use Rattle.flat_code.specs.Routines.Effects.{worked, effects}
+use Rattle.flat_code.specs.Routines.Renaming.{through, Agrees}
+use Rattle.flat_code.specs.Routines.Metadata.{View, IsObjectWord, KeepsButShadow, ShowsNothing, entry_registers}
+use Rattle.flat_code.proofs.Routines.Steps.{has_self}
+use Rattle.flat_code.proofs.Routines.Rules.{branch, line_on, arrived}
+use Rattle.flat_code.proofs.Routines.Distinct.{registers_rename, others_stay}
+use Rattle.flat_code.proofs.Routines.Wrapped.{routine}
+use Rattle.flat_code.proofs.Routines.Regions.{IsLaidOut}
+use Rattle.flat_code.proofs.Routines.Branches.{if_not_below, if_below, if_differ, if_same}
+use Rattle.flat_code.proofs.Routines.Showing.{shows_both}
+use Rattle.flat_code.specs.Routines.Objects.Changes.{IsMovedWord, IsKeptWord}
 use Rattle.shadow_space.specs.Form.{HasRead, IsReadRoutine, HasWritten, IsWriteRoutine}
 use Rattle.shadow_space.proofs.Entries.{agrees_shows, agrees_memory}
 use Rattle.flat_actions.specs.Ranges.{IsObjectRange, IsToMove}

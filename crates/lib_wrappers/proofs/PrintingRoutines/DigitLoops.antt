@@ -9,20 +9,20 @@ use Rattle.std.proofs.Math.Nat.{pow-zero, pow-suc, le-div_iff_mul-le, mul-div_ca
 use Rattle.addr_map.specs.Places.{MapSizes}
 use Rattle.rv_isa.specs.declared.instruction.BranchOp.TheVariants.{Beq, Bltu}
 use Rattle.rv_isa.specs.Results.{reg_result, branch_taken, quotient_or_ones, remainder_or_dividend, bit_of}
-use Rattle.flat_meaning.specs.declared.instruction.RightOperand.TheVariants.{Number}
-use Rattle.flat_meaning.specs.declared.instruction.FlatInstruction.{FlatInstruction}
-use Rattle.flat_meaning.specs.declared.instruction.FlatInstruction.TheVariants.{Constant, Move, JumpBack}
-use Rattle.flat_meaning.specs.Memory.{put}
-use Rattle.flat_meaning.specs.State.{State}
-use Rattle.flat_meaning.specs.Words.{IsOfWords}
-use Rattle.flat_meaning.specs.Meaning.{Context, Goes}
-use Rattle.flat_routines.specs.Routine.{Reaches, Either, Never, until_code}
-use Rattle.flat_routines.specs.Effects.{worked, effects}
-use Rattle.flat_routines.proofs.Steps.{has_front, has_back, has_self}
-use Rattle.flat_routines.proofs.Rules.{weaken, next, line, line_on, loop}
-use Rattle.flat_routines.proofs.Branches.{is_less, is_not_less, are_equal, are_not_equal}
+use Rattle.flat_code.specs.declared.instruction.RightOperand.TheVariants.{Number}
+use Rattle.flat_code.specs.declared.instruction.FlatInstruction.{FlatInstruction}
+use Rattle.flat_code.specs.declared.instruction.FlatInstruction.TheVariants.{Constant, Move, JumpBack}
+use Rattle.flat_code.specs.Memory.{put}
+use Rattle.flat_code.specs.State.{State}
+use Rattle.flat_code.specs.Words.{IsOfWords}
+use Rattle.flat_code.specs.Meaning.{Context, Goes}
+use Rattle.flat_code.specs.Routines.Routine.{Reaches, Either, Never, until_code}
+use Rattle.flat_code.specs.Routines.Effects.{worked, effects}
+use Rattle.flat_code.proofs.Routines.Steps.{has_front, has_back, has_self}
+use Rattle.flat_code.proofs.Routines.Rules.{weaken, next, line, line_on, loop}
+use Rattle.flat_code.proofs.Routines.Branches.{is_less, is_not_less, are_equal, are_not_equal}
 use Rattle.shadow_space.proofs.Entries.{context_of}
-use Rattle.flat_routines.proofs.Spaces.Quiet.{quiet_words}
+use Rattle.flat_code.proofs.Routines.Spaces.Quiet.{quiet_words}
 use Rattle.lib_wrappers.specs.PrintingRoutines.Digits.{seek_power, put_digit, digits_code}
 use Rattle.lib_wrappers.proofs.PrintingRoutines.DigitLists.{digits_from, IsHighest, no_power, divided_again, still_left}
 use Rattle.lib_wrappers.proofs.PrintingRoutines.DigitLists.{positive}

@@ -4,15 +4,15 @@ use Rattle.std.proofs.Common.{◌++◌, true, false, length, refl, sym, ap, ◌�
 use Rattle.std.specs.Fmt.{digits}
 use Rattle.std.proofs.lemmas.List.{append-nil}
 use Rattle.addr_map.specs.Places.{MapSizes}
-use Rattle.flat_meaning.specs.State.{State}
-use Rattle.flat_meaning.specs.Words.{IsOfWords}
-use Rattle.flat_meaning.specs.Meaning.{Goes}
-use Rattle.flat_routines.specs.Registers.{AreBelow, AreNoneOf}
-use Rattle.flat_routines.specs.Routine.{Outcome, Continues, Halts, Reaches, Either, Never}
-use Rattle.flat_routines.specs.Renaming.{through}
-use Rattle.flat_routines.proofs.Distinct.{AreRegisters, register_of, registers_rename, others_stay}
-use Rattle.flat_routines.proofs.Rules.{weaken}
-use Rattle.flat_routines.proofs.Wrapped.{routine}
+use Rattle.flat_code.specs.State.{State}
+use Rattle.flat_code.specs.Words.{IsOfWords}
+use Rattle.flat_code.specs.Meaning.{Goes}
+use Rattle.flat_code.specs.Routines.Registers.{AreBelow, AreNoneOf}
+use Rattle.flat_code.specs.Routines.Routine.{Outcome, Continues, Halts, Reaches, Either, Never}
+use Rattle.flat_code.specs.Routines.Renaming.{through}
+use Rattle.flat_code.proofs.Routines.Distinct.{AreRegisters, register_of, registers_rename, others_stay}
+use Rattle.flat_code.proofs.Routines.Rules.{weaken}
+use Rattle.flat_code.proofs.Routines.Wrapped.{routine}
 use Rattle.shadow_space.proofs.Entries.{context_of, agrees_memory}
 use Rattle.lib_wrappers.specs.PrintingRoutines.Digits.{HasPrinted, IsDigitsRoutine, digits_code}
 use Rattle.lib_wrappers.proofs.PrintingRoutines.DigitLists.{digits_from, highest, are_digits, digit_count}

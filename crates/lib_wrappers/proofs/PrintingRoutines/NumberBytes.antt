@@ -11,8 +11,8 @@ use Rattle.words.specs.TwosComplement.{sign_extended}
 use Rattle.obj_memory.specs.declared.int_type.IntType.TheVariants.{Int}
 use Rattle.obj_memory.specs.Integers.{fit}
 use Rattle.source_meaning.specs.Actions.{int_of}
-use Rattle.flat_meaning.specs.State.{State}
-use Rattle.flat_meaning.specs.Words.{IsOfWords}
+use Rattle.flat_code.specs.State.{State}
+use Rattle.flat_code.specs.Words.{IsOfWords}
 use Rattle.lib_wrappers.specs.PrintingRoutines.Digits.{HasPrinted}
 
 -- ---- signed numbers

@@ -13,21 +13,21 @@ use Rattle.obj_memory.specs.declared.int_type.IntType.TheVariants.{Int, Unsigned
 use Rattle.obj_memory.specs.Integers.{fit}
 use Rattle.c_tree.specs.declared.format.Directive.{Directive}
 use Rattle.c_tree.specs.declared.format.Directive.TheVariants as directive
-use Rattle.flat_meaning.specs.declared.instruction.RightOperand.TheVariants.{Register, Number}
-use Rattle.flat_meaning.specs.declared.instruction.FlatInstruction.{FlatInstruction}
-use Rattle.flat_meaning.specs.declared.instruction.FlatInstruction.TheVariants.{Constant, Move, Operate, Operate32, Put}
-use Rattle.flat_meaning.specs.Memory.{put}
-use Rattle.flat_meaning.specs.State.{State}
-use Rattle.flat_meaning.specs.Words.{IsOfWords}
-use Rattle.flat_meaning.specs.Meaning.{Context, Goes}
-use Rattle.flat_meaning.proofs.Stored.{put_same, put_other}
-use Rattle.flat_routines.specs.Routine.{HasAt, Outcome, Continues, Halts, Reaches, Either, Never}
-use Rattle.flat_routines.specs.Effects.{worked, effects}
-use Rattle.flat_routines.proofs.Steps.{has_front, has_back}
-use Rattle.flat_routines.proofs.Rules.{weaken, next, line, branch, arrived}
-use Rattle.flat_routines.proofs.Branches.{if_not_negative, if_negative}
+use Rattle.flat_code.specs.declared.instruction.RightOperand.TheVariants.{Register, Number}
+use Rattle.flat_code.specs.declared.instruction.FlatInstruction.{FlatInstruction}
+use Rattle.flat_code.specs.declared.instruction.FlatInstruction.TheVariants.{Constant, Move, Operate, Operate32, Put}
+use Rattle.flat_code.specs.Memory.{put}
+use Rattle.flat_code.specs.State.{State}
+use Rattle.flat_code.specs.Words.{IsOfWords}
+use Rattle.flat_code.specs.Meaning.{Context, Goes}
+use Rattle.flat_code.proofs.Stored.{put_same, put_other}
+use Rattle.flat_code.specs.Routines.Routine.{HasAt, Outcome, Continues, Halts, Reaches, Either, Never}
+use Rattle.flat_code.specs.Routines.Effects.{worked, effects}
+use Rattle.flat_code.proofs.Routines.Steps.{has_front, has_back}
+use Rattle.flat_code.proofs.Routines.Rules.{weaken, next, line, branch, arrived}
+use Rattle.flat_code.proofs.Routines.Branches.{if_not_negative, if_negative}
 use Rattle.shadow_space.proofs.Entries.{context_of}
-use Rattle.flat_routines.proofs.Spaces.Quiet.{quiet_words, worked_words}
+use Rattle.flat_code.proofs.Routines.Spaces.Quiet.{quiet_words, worked_words}
 use Rattle.flat_operators.proofs.Values.{int_by_word}
 use Rattle.lib_wrappers.specs.PrintingRoutines.Digits.{HasPrinted}
 use Rattle.lib_wrappers.specs.PrintingRoutines.Numbers.{number_bytes, IsNumberRoutine, sign_code, base_code, low_code}

@@ -6,8 +6,8 @@ use Rattle.obj_memory.specs.declared.value.Value.{Value}
 use Rattle.c_tree.specs.declared.format.Directive.{Directive}
 use Rattle.c_tree.specs.declared.format.Piece.{Piece}
 use Rattle.c_tree.specs.declared.format.Piece.TheVariants as piece
-use Rattle.flat_meaning.specs.State.{State}
-use Rattle.flat_routines.specs.Registers.{AreBelow}
+use Rattle.flat_code.specs.State.{State}
+use Rattle.flat_code.specs.Routines.Registers.{AreBelow}
 use Rattle.flat_actions.specs.Actions.{Holder, Nowhere, Word, Pointer, registers_of}
 use Rattle.flat_actions.specs.Ranges.{IsObjectRange}
 use Rattle.flat_actions.proofs.Standing.{AreAllBelow}

@@ -14,20 +14,20 @@ use Rattle.source_meaning.specs.State.{State as Source, Outcome as Completed, Gi
 use Rattle.source_meaning.specs.Acting.{state_of}
 use Rattle.source_meaning.specs.Actions.{integer, put_bytes}
 use Rattle.source_meaning.specs.Printing.{formatted, pieces_or_none, print_formatted}
-use Rattle.flat_meaning.specs.declared.instruction.FlatInstruction.{FlatInstruction}
-use Rattle.flat_meaning.specs.declared.instruction.FlatInstruction.TheVariants.{Constant}
-use Rattle.flat_meaning.specs.Memory.{Bytes}
-use Rattle.flat_meaning.specs.State.{State}
-use Rattle.flat_meaning.specs.Words.{IsOfWords}
-use Rattle.flat_meaning.specs.Meaning.{Context, Goes}
-use Rattle.flat_meaning.proofs.Stored.{put_same, put_other}
-use Rattle.flat_routines.specs.Metadata.{View}
-use Rattle.flat_routines.specs.Routine.{Does, HasAt, Outcome, Continues, Halts, Reaches, Either, Never}
-use Rattle.flat_routines.specs.Effects.{effects}
-use Rattle.flat_routines.proofs.Steps.{has_front, has_back}
-use Rattle.flat_routines.proofs.Rules.{weaken, next, line as straight, line_on, ends_there}
-use Rattle.flat_routines.specs.Objects.StandsFor.{Views, Keys, StandsFor}
-use Rattle.flat_routines.proofs.Spaces.Quiet.{quiet_words}
+use Rattle.flat_code.specs.declared.instruction.FlatInstruction.{FlatInstruction}
+use Rattle.flat_code.specs.declared.instruction.FlatInstruction.TheVariants.{Constant}
+use Rattle.flat_code.specs.Memory.{Bytes}
+use Rattle.flat_code.specs.State.{State}
+use Rattle.flat_code.specs.Words.{IsOfWords}
+use Rattle.flat_code.specs.Meaning.{Context, Goes}
+use Rattle.flat_code.proofs.Stored.{put_same, put_other}
+use Rattle.flat_code.specs.Routines.Metadata.{View}
+use Rattle.flat_code.specs.Routines.Routine.{Does, HasAt, Outcome, Continues, Halts, Reaches, Either, Never}
+use Rattle.flat_code.specs.Routines.Effects.{effects}
+use Rattle.flat_code.proofs.Routines.Steps.{has_front, has_back}
+use Rattle.flat_code.proofs.Routines.Rules.{weaken, next, line as straight, line_on, ends_there}
+use Rattle.flat_code.specs.Routines.Objects.StandsFor.{Views, Keys, StandsFor}
+use Rattle.flat_code.proofs.Routines.Spaces.Quiet.{quiet_words}
 use Rattle.flat_operators.proofs.Values.{int_by_word}
 use Rattle.flat_actions.specs.Actions.{Basis, Holder, Word, context_in, views_of, IsFor, AreHeldBy, HasGiven}
 use Rattle.flat_actions.specs.Actions.{HasEnded, Leaves, IsAction}

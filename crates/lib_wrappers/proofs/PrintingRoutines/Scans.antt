@@ -15,19 +15,19 @@ use Rattle.source_meaning.specs.Acting.{state_of}
 use Rattle.source_meaning.specs.Actions.{integer}
 use Rattle.source_meaning.specs.Strings.{scan}
 use Rattle.source_meaning.specs.Printing.{argument_bytes, formatted}
-use Rattle.flat_meaning.specs.declared.instruction.FlatInstruction.{FlatInstruction}
-use Rattle.flat_meaning.specs.State.{State}
-use Rattle.flat_meaning.specs.Words.{IsOfWords}
-use Rattle.flat_meaning.specs.Meaning.{Context, Goes}
-use Rattle.flat_routines.specs.declared.registers.Held.{Held}
-use Rattle.flat_routines.specs.Registers.{AreBelow}
-use Rattle.flat_routines.specs.Routine.{HasAt, Outcome, Continues, Halts, Reaches}
-use Rattle.flat_routines.specs.Metadata.{ShowsNothing, held_registers}
-use Rattle.flat_routines.proofs.Steps.{has_front, has_back}
-use Rattle.flat_routines.proofs.Rules.{weaken, next, arrived}
-use Rattle.flat_routines.proofs.Showing.{shows_both}
-use Rattle.flat_routines.specs.Objects.StandsFor.{Views, Keys}
-use Rattle.flat_routines.proofs.Spaces.Quiet.{shows_itself}
+use Rattle.flat_code.specs.declared.instruction.FlatInstruction.{FlatInstruction}
+use Rattle.flat_code.specs.State.{State}
+use Rattle.flat_code.specs.Words.{IsOfWords}
+use Rattle.flat_code.specs.Meaning.{Context, Goes}
+use Rattle.flat_code.specs.declared.registers.Held.{Held}
+use Rattle.flat_code.specs.Routines.Registers.{AreBelow}
+use Rattle.flat_code.specs.Routines.Routine.{HasAt, Outcome, Continues, Halts, Reaches}
+use Rattle.flat_code.specs.Routines.Metadata.{ShowsNothing, held_registers}
+use Rattle.flat_code.proofs.Routines.Steps.{has_front, has_back}
+use Rattle.flat_code.proofs.Routines.Rules.{weaken, next, arrived}
+use Rattle.flat_code.proofs.Routines.Showing.{shows_both}
+use Rattle.flat_code.specs.Routines.Objects.StandsFor.{Views, Keys}
+use Rattle.flat_code.proofs.Routines.Spaces.Quiet.{shows_itself}
 use Rattle.flat_actions.specs.Actions.{ChangesNothing}
 use Rattle.flat_actions.proofs.Standing.{nothing_then}
 use Rattle.flat_actions.specs.Actions.{Basis, context_in, views_of, IsFor, Holder, Nowhere, Word, Pointer}

@@ -5,13 +5,13 @@ use Rattle.std.proofs.lemmas.List.{append-nil}
 use Rattle.addr_map.specs.Places.{MapSizes, AreMapped}
 use Rattle.c_tree.specs.Format.{pieces}
 use Rattle.source_meaning.specs.Printing.{print_formatted}
-use Rattle.flat_meaning.specs.Memory.{Bytes}
-use Rattle.flat_meaning.specs.declared.instruction.FlatInstruction.TheVariants.{Constant}
-use Rattle.flat_routines.specs.Metadata.{View}
+use Rattle.flat_code.specs.Memory.{Bytes}
+use Rattle.flat_code.specs.declared.instruction.FlatInstruction.TheVariants.{Constant}
+use Rattle.flat_code.specs.Routines.Metadata.{View}
 use Rattle.c_tree.specs.declared.format.Directive.{Directive}
 use Rattle.source_meaning.specs.Strings.{scan}
-use Rattle.flat_meaning.specs.declared.instruction.FlatInstruction.{FlatInstruction}
-use Rattle.flat_routines.specs.declared.registers.Held.{Held}
+use Rattle.flat_code.specs.declared.instruction.FlatInstruction.{FlatInstruction}
+use Rattle.flat_code.specs.declared.registers.Held.{Held}
 use Rattle.flat_actions.specs.Actions.{Basis, Word, IsAction}
 use Rattle.flat_actions.specs.Scanning.{IsScanRoutine}
 use Rattle.flat_actions.proofs.Standing.{AreAllBelow}

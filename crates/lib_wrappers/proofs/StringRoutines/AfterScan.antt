@@ -5,12 +5,12 @@ use Rattle.sb_base.specs.Endings.{code_of, report_of}
 use Rattle.addr_map.specs.Places.{MapSizes}
 use Rattle.source_meaning.specs.State.{State as Source, Outcome as Completed, Gives, Ended, Paused}
 use Rattle.source_meaning.specs.Acting.{state_of}
-use Rattle.flat_meaning.specs.declared.instruction.FlatInstruction.{FlatInstruction}
-use Rattle.flat_meaning.specs.State.{State}
-use Rattle.flat_meaning.specs.Words.{IsOfWords}
-use Rattle.flat_meaning.specs.Meaning.{Context, Goes}
-use Rattle.flat_routines.specs.Routine.{Outcome, Continues, Halts, Reaches, Either, Never}
-use Rattle.flat_routines.proofs.Rules.{weaken, ends_there, next}
+use Rattle.flat_code.specs.declared.instruction.FlatInstruction.{FlatInstruction}
+use Rattle.flat_code.specs.State.{State}
+use Rattle.flat_code.specs.Words.{IsOfWords}
+use Rattle.flat_code.specs.Meaning.{Context, Goes}
+use Rattle.flat_code.specs.Routines.Routine.{Outcome, Continues, Halts, Reaches, Either, Never}
+use Rattle.flat_code.proofs.Routines.Rules.{weaken, ends_there, next}
 use Rattle.flat_actions.specs.Actions.{IsShown, HasEnded, ChangesNothing}
 use Rattle.flat_actions.specs.Scanning.{IsWorked, HasScanned, IsScanned}
 use Rattle.flat_actions.proofs.Standing.{ended_still, unwritten_same}

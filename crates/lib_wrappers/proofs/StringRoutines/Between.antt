@@ -18,8 +18,8 @@ use Rattle.source_meaning.specs.State.{State as Source, Outcome as Completed, Gi
 use Rattle.source_meaning.specs.State.{done}
 use Rattle.source_meaning.specs.State.{stop, choose}
 use Rattle.source_meaning.specs.Strings.{reach, scan_within, scan}
-use Rattle.flat_meaning.specs.Memory.{Bytes}
-use Rattle.flat_routines.specs.Objects.StandsFor.{Views, Keys, StandsFor}
+use Rattle.flat_code.specs.Memory.{Bytes}
+use Rattle.flat_code.specs.Routines.Objects.StandsFor.{Views, Keys, StandsFor}
 use Rattle.flat_actions.specs.Ranges.{IsObjectRange}
 use Rattle.flat_actions.proofs.Looking.{IsAround, around, lives, worked_on}
 use Rattle.lib_wrappers.proofs.StringRoutines.Looking.{scan_by, with_first}

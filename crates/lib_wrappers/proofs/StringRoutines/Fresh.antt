@@ -1,6 +1,6 @@
 -- Registers from scratch on are none of those below.
 use Rattle.std.proofs.Common.{ℕ, ◌≤◌, List, [], ◌∷◌, arith}
-use Rattle.flat_routines.specs.Registers.{AreNoneOf, AreBelow}
+use Rattle.flat_code.specs.Routines.Registers.{AreNoneOf, AreBelow}
 
 pub apart_from : (t u : ℕ) (xs : List ℕ) → t ≤ u → AreBelow t xs → AreNoneOf xs (u ∷ [])
 apart_from t u [] le below = tt

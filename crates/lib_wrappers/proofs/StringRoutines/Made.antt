@@ -2,8 +2,8 @@
 use Rattle.std.proofs.Common.{◌≡◌, ℕ, ◌+◌, List, ◌++◌}
 use Rattle.addr_map.specs.Places.{MapSizes}
 use Rattle.source_meaning.specs.Strings.{scan}
-use Rattle.flat_meaning.specs.declared.instruction.FlatInstruction.{FlatInstruction}
-use Rattle.flat_routines.specs.declared.registers.Held.{Held}
+use Rattle.flat_code.specs.declared.instruction.FlatInstruction.{FlatInstruction}
+use Rattle.flat_code.specs.declared.registers.Held.{Held}
 use Rattle.flat_actions.specs.Judgement.Judging.{IsJudgeRoutine}
 use Rattle.flat_actions.specs.Actions.{Basis}
 use Rattle.flat_actions.specs.Ranges.{IsByteMoveRoutine, IsFillRoutine}

@@ -6,25 +6,25 @@ use Rattle.std.proofs.lemmas.List.{append-nil}
 use Rattle.addr_map.specs.Places.{MapSizes}
 use Rattle.rv_isa.specs.declared.instruction.BranchOp.TheVariants.{Beq}
 use Rattle.rv_isa.specs.Results.{reg_result, extended, branch_taken}
-use Rattle.flat_meaning.specs.declared.instruction.RightOperand.TheVariants.{Register}
-use Rattle.flat_meaning.specs.declared.instruction.FlatInstruction.TheVariants.{Move, JumpBack}
-use Rattle.flat_meaning.specs.Memory.{Bytes, put, load}
-use Rattle.flat_meaning.specs.Spaces.{is_allowed}
-use Rattle.flat_meaning.specs.State.{State}
-use Rattle.flat_meaning.specs.Words.{IsOfWords}
-use Rattle.flat_meaning.specs.Meaning.{Context, Goes}
-use Rattle.flat_meaning.proofs.Stored.{put_other}
-use Rattle.flat_routines.specs.Registers.{AreBelow}
-use Rattle.flat_routines.specs.Routine.{Reaches, Either, Never}
-use Rattle.flat_routines.specs.Effects.{worked, effects}
-use Rattle.flat_routines.specs.Renaming.{through}
-use Rattle.flat_routines.proofs.Steps.{has_front, has_self}
-use Rattle.flat_routines.proofs.Rules.{weaken, line, line_on, loop}
-use Rattle.flat_routines.proofs.Distinct.{AreRegisters, register_of, registers_rename, others_stay}
-use Rattle.flat_routines.proofs.Wrapped.{routine}
-use Rattle.flat_routines.proofs.Branches.{are_equal, are_not_equal}
-use Rattle.flat_routines.proofs.Regions.{object_allowed}
-use Rattle.flat_routines.proofs.Words.{byte_loaded}
+use Rattle.flat_code.specs.declared.instruction.RightOperand.TheVariants.{Register}
+use Rattle.flat_code.specs.declared.instruction.FlatInstruction.TheVariants.{Move, JumpBack}
+use Rattle.flat_code.specs.Memory.{Bytes, put, load}
+use Rattle.flat_code.specs.Spaces.{is_allowed}
+use Rattle.flat_code.specs.State.{State}
+use Rattle.flat_code.specs.Words.{IsOfWords}
+use Rattle.flat_code.specs.Meaning.{Context, Goes}
+use Rattle.flat_code.proofs.Stored.{put_other}
+use Rattle.flat_code.specs.Routines.Registers.{AreBelow}
+use Rattle.flat_code.specs.Routines.Routine.{Reaches, Either, Never}
+use Rattle.flat_code.specs.Routines.Effects.{worked, effects}
+use Rattle.flat_code.specs.Routines.Renaming.{through}
+use Rattle.flat_code.proofs.Routines.Steps.{has_front, has_self}
+use Rattle.flat_code.proofs.Routines.Rules.{weaken, line, line_on, loop}
+use Rattle.flat_code.proofs.Routines.Distinct.{AreRegisters, register_of, registers_rename, others_stay}
+use Rattle.flat_code.proofs.Routines.Wrapped.{routine}
+use Rattle.flat_code.proofs.Routines.Branches.{are_equal, are_not_equal}
+use Rattle.flat_code.proofs.Routines.Regions.{object_allowed}
+use Rattle.flat_code.proofs.Routines.Words.{byte_loaded}
 use Rattle.shadow_space.proofs.Entries.{context_of, agrees_memory}
 use Rattle.flat_actions.specs.Ranges.{IsObjectRange}
 use Rattle.lib_wrappers.specs.StringRoutines.Putting.{bytes_from, IsToPut, HasPut, IsPutRoutine, put_body, put_code}

@@ -2,12 +2,12 @@
 use Rattle.std.proofs.Common.{◌≡◌, ℕ, List, [], ◌∷◌, ◌++◌, true, not, ◌&&◌, if◌then◌else◌, ap, sym}
 use Rattle.std.proofs.Common.{subst}
 use Rattle.behaviours.specs.Shown.{Access, AccessKind}
-use Rattle.flat_meaning.specs.Spaces.{is_of_objects}
-use Rattle.flat_meaning.specs.Meaning.{Context}
-use Rattle.flat_meaning.specs.declared.instruction.FlatInstruction.{FlatInstruction}
-use Rattle.flat_meaning.specs.State.{State}
-use Rattle.flat_routines.specs.Effects.{with_shown}
-use Rattle.flat_routines.specs.Routine.{Outcome, Does}
+use Rattle.flat_code.specs.Spaces.{is_of_objects}
+use Rattle.flat_code.specs.Meaning.{Context}
+use Rattle.flat_code.specs.declared.instruction.FlatInstruction.{FlatInstruction}
+use Rattle.flat_code.specs.State.{State}
+use Rattle.flat_code.specs.Routines.Effects.{with_shown}
+use Rattle.flat_code.specs.Routines.Routine.{Outcome, Does}
 use Rattle.flat_actions.specs.Actions.{Basis, context_in}
 
 -- they are not shown

@@ -20,20 +20,20 @@ use Rattle.source_meaning.specs.State.{done}
 use Rattle.source_meaning.specs.State.{choose}
 use Rattle.source_meaning.specs.Acting.{state_of}
 use Rattle.source_meaning.specs.Strings.{scan_within}
-use Rattle.flat_meaning.specs.declared.instruction.RightOperand.TheVariants.{Register, Number}
-use Rattle.flat_meaning.specs.declared.instruction.FlatInstruction.{FlatInstruction}
-use Rattle.flat_meaning.specs.declared.instruction.FlatInstruction.TheVariants.{Operate, Load, Branch, JumpBack, End}
-use Rattle.flat_meaning.specs.Memory.{Bytes, put, load}
-use Rattle.flat_meaning.specs.Spaces.{is_allowed}
-use Rattle.flat_meaning.specs.State.{State}
-use Rattle.flat_meaning.specs.Meaning.{Context, Goes}
-use Rattle.flat_routines.specs.Routine.{HasAt, Outcome, Continues, Halts, Reaches}
-use Rattle.flat_routines.specs.Effects.{worked, effects}
-use Rattle.flat_routines.specs.Metadata.{ShowsNothing}
-use Rattle.flat_routines.proofs.Rules.{weaken, line_on, branch, arrived, ended, jump_back}
-use Rattle.flat_routines.proofs.Branches.{if_differ, if_same, if_equal, if_unequal}
-use Rattle.flat_routines.proofs.Showing.{shows_on}
-use Rattle.flat_routines.proofs.Words.{byte_loaded}
+use Rattle.flat_code.specs.declared.instruction.RightOperand.TheVariants.{Register, Number}
+use Rattle.flat_code.specs.declared.instruction.FlatInstruction.{FlatInstruction}
+use Rattle.flat_code.specs.declared.instruction.FlatInstruction.TheVariants.{Operate, Load, Branch, JumpBack, End}
+use Rattle.flat_code.specs.Memory.{Bytes, put, load}
+use Rattle.flat_code.specs.Spaces.{is_allowed}
+use Rattle.flat_code.specs.State.{State}
+use Rattle.flat_code.specs.Meaning.{Context, Goes}
+use Rattle.flat_code.specs.Routines.Routine.{HasAt, Outcome, Continues, Halts, Reaches}
+use Rattle.flat_code.specs.Routines.Effects.{worked, effects}
+use Rattle.flat_code.specs.Routines.Metadata.{ShowsNothing}
+use Rattle.flat_code.proofs.Routines.Rules.{weaken, line_on, branch, arrived, ended, jump_back}
+use Rattle.flat_code.proofs.Routines.Branches.{if_differ, if_same, if_equal, if_unequal}
+use Rattle.flat_code.proofs.Routines.Showing.{shows_on}
+use Rattle.flat_code.proofs.Routines.Words.{byte_loaded}
 use Rattle.behaviours.specs.Shown.{Read}
 use Rattle.flat_actions.specs.Actions.{ChangesNothing}
 use Rattle.flat_actions.specs.Scanning.{IsWorked}

@@ -17,22 +17,22 @@ use Rattle.obj_memory.specs.Sound.{IsSoundTag, IsTagOf}
 use Rattle.source_meaning.specs.State.{State as Source, Gives, Ended, Run, done, stop}
 use Rattle.source_meaning.specs.Acting.{state_of}
 use Rattle.source_meaning.specs.Strings.{reach, scan_within}
-use Rattle.flat_meaning.specs.declared.instruction.RightOperand.TheVariants.{Register}
-use Rattle.flat_meaning.specs.declared.instruction.FlatInstruction.{FlatInstruction}
-use Rattle.flat_meaning.specs.declared.instruction.FlatInstruction.TheVariants.{Move, Operate}
-use Rattle.flat_meaning.specs.Memory.{Bytes, put}
-use Rattle.flat_meaning.specs.State.{State}
-use Rattle.flat_meaning.specs.Words.{IsOfWords}
-use Rattle.flat_meaning.specs.Meaning.{Context, Goes}
-use Rattle.flat_routines.specs.declared.registers.Held.{Held}
-use Rattle.flat_routines.specs.Routine.{HasAt, Outcome, Reaches}
-use Rattle.flat_routines.specs.Effects.{worked, effects, AreAllowed}
-use Rattle.flat_routines.specs.Metadata.{ShowsNothing}
-use Rattle.flat_routines.proofs.Steps.{has_front, has_back, has_self}
-use Rattle.flat_routines.proofs.Rules.{weaken, line_on, branch, arrived}
-use Rattle.flat_routines.proofs.Regions.{IsLaidOut, laid_out, object_allowed}
-use Rattle.flat_routines.proofs.Branches.{if_equal, if_unequal}
-use Rattle.flat_routines.specs.Objects.StandsFor.{Views, Keys, Spells, StandsFor, spell}
+use Rattle.flat_code.specs.declared.instruction.RightOperand.TheVariants.{Register}
+use Rattle.flat_code.specs.declared.instruction.FlatInstruction.{FlatInstruction}
+use Rattle.flat_code.specs.declared.instruction.FlatInstruction.TheVariants.{Move, Operate}
+use Rattle.flat_code.specs.Memory.{Bytes, put}
+use Rattle.flat_code.specs.State.{State}
+use Rattle.flat_code.specs.Words.{IsOfWords}
+use Rattle.flat_code.specs.Meaning.{Context, Goes}
+use Rattle.flat_code.specs.declared.registers.Held.{Held}
+use Rattle.flat_code.specs.Routines.Routine.{HasAt, Outcome, Reaches}
+use Rattle.flat_code.specs.Routines.Effects.{worked, effects, AreAllowed}
+use Rattle.flat_code.specs.Routines.Metadata.{ShowsNothing}
+use Rattle.flat_code.proofs.Routines.Steps.{has_front, has_back, has_self}
+use Rattle.flat_code.proofs.Routines.Rules.{weaken, line_on, branch, arrived}
+use Rattle.flat_code.proofs.Routines.Regions.{IsLaidOut, laid_out, object_allowed}
+use Rattle.flat_code.proofs.Routines.Branches.{if_equal, if_unequal}
+use Rattle.flat_code.specs.Routines.Objects.StandsFor.{Views, Keys, Spells, StandsFor, spell}
 use Rattle.flat_actions.specs.Actions.{Basis, context_in, views_of, work_of}
 use Rattle.lib_wrappers.specs.StringRoutines.Scanning.{scan_loop, at_limit}
 use Rattle.flat_actions.proofs.Looking.{IsAround, around, lives, reach_is}

@@ -12,19 +12,19 @@ use Rattle.source_meaning.specs.Actions.{located}
 use Rattle.source_meaning.specs.Bytes.{set_bytes}
 use Rattle.source_meaning.specs.Acting.{state_of, at_work}
 use Rattle.source_meaning.specs.Strings.{scan, write_string}
-use Rattle.flat_meaning.specs.declared.instruction.FlatInstruction.{FlatInstruction}
-use Rattle.flat_meaning.specs.State.{State}
-use Rattle.flat_meaning.specs.Words.{IsOfWords}
-use Rattle.flat_meaning.specs.Meaning.{Context, Goes}
-use Rattle.flat_routines.specs.declared.registers.Held.{Held}
-use Rattle.flat_routines.specs.Registers.{AreBelow}
-use Rattle.flat_routines.specs.Routine.{HasAt, Outcome, Halts, Reaches, Does}
-use Rattle.flat_routines.specs.Metadata.{held_registers}
-use Rattle.flat_routines.proofs.Steps.{has_front, has_back}
-use Rattle.flat_routines.proofs.Rules.{weaken}
-use Rattle.flat_routines.proofs.Words.{IsLocal}
-use Rattle.flat_routines.proofs.Distinct.{below_more}
-use Rattle.flat_routines.specs.Objects.StandsFor.{Views, Keys, Spells}
+use Rattle.flat_code.specs.declared.instruction.FlatInstruction.{FlatInstruction}
+use Rattle.flat_code.specs.State.{State}
+use Rattle.flat_code.specs.Words.{IsOfWords}
+use Rattle.flat_code.specs.Meaning.{Context, Goes}
+use Rattle.flat_code.specs.declared.registers.Held.{Held}
+use Rattle.flat_code.specs.Routines.Registers.{AreBelow}
+use Rattle.flat_code.specs.Routines.Routine.{HasAt, Outcome, Halts, Reaches, Does}
+use Rattle.flat_code.specs.Routines.Metadata.{held_registers}
+use Rattle.flat_code.proofs.Routines.Steps.{has_front, has_back}
+use Rattle.flat_code.proofs.Routines.Rules.{weaken}
+use Rattle.flat_code.proofs.Routines.Words.{IsLocal}
+use Rattle.flat_code.proofs.Routines.Distinct.{below_more}
+use Rattle.flat_code.specs.Routines.Objects.StandsFor.{Views, Keys, Spells}
 use Rattle.flat_actions.specs.Judgement.Judging.{IsJudgeRoutine}
 use Rattle.flat_actions.specs.Actions.{Basis, Pointer, Nowhere, IsHeldBy, IsFor, Leaves, context_in, views_of, work_of}
 use Rattle.flat_actions.specs.Ranges.{IsByteMoveRoutine}

@@ -11,23 +11,23 @@ use Rattle.obj_memory.specs.declared.value.Place.{Place}
 use Rattle.obj_memory.specs.Judgement.{judge}
 use Rattle.obj_memory.specs.Sound.{IsSoundTag, IsAllowed}
 use Rattle.source_meaning.specs.State.{State as Source, Outcome as Completed}
-use Rattle.flat_meaning.specs.declared.instruction.FlatInstruction.{FlatInstruction}
-use Rattle.flat_meaning.specs.Memory.{Bytes}
-use Rattle.flat_meaning.specs.State.{State}
-use Rattle.flat_meaning.specs.Words.{IsOfWords}
-use Rattle.flat_meaning.specs.Meaning.{Context, Goes}
-use Rattle.flat_meaning.proofs.Stored.{put_same, put_other}
-use Rattle.flat_routines.specs.declared.registers.Held.{Held}
-use Rattle.flat_routines.specs.Registers.{AreBelow}
-use Rattle.flat_routines.specs.Routine.{Outcome, Continues, Halts, Reaches, Does, Either, Never}
-use Rattle.flat_routines.proofs.Steps.{has_front, has_back}
-use Rattle.flat_routines.proofs.Rules.{weaken, line_on}
-use Rattle.flat_routines.proofs.Words.{IsLocal}
-use Rattle.flat_routines.proofs.Distinct.{below_more}
-use Rattle.flat_routines.proofs.Spaces.Quiet.{quiet_words}
-use Rattle.flat_routines.specs.Effects.{effects}
-use Rattle.flat_routines.specs.Metadata.{held_registers}
-use Rattle.flat_routines.specs.Objects.StandsFor.{Views, Keys, Spells}
+use Rattle.flat_code.specs.declared.instruction.FlatInstruction.{FlatInstruction}
+use Rattle.flat_code.specs.Memory.{Bytes}
+use Rattle.flat_code.specs.State.{State}
+use Rattle.flat_code.specs.Words.{IsOfWords}
+use Rattle.flat_code.specs.Meaning.{Context, Goes}
+use Rattle.flat_code.proofs.Stored.{put_same, put_other}
+use Rattle.flat_code.specs.declared.registers.Held.{Held}
+use Rattle.flat_code.specs.Routines.Registers.{AreBelow}
+use Rattle.flat_code.specs.Routines.Routine.{Outcome, Continues, Halts, Reaches, Does, Either, Never}
+use Rattle.flat_code.proofs.Routines.Steps.{has_front, has_back}
+use Rattle.flat_code.proofs.Routines.Rules.{weaken, line_on}
+use Rattle.flat_code.proofs.Routines.Words.{IsLocal}
+use Rattle.flat_code.proofs.Routines.Distinct.{below_more}
+use Rattle.flat_code.proofs.Routines.Spaces.Quiet.{quiet_words}
+use Rattle.flat_code.specs.Routines.Effects.{effects}
+use Rattle.flat_code.specs.Routines.Metadata.{held_registers}
+use Rattle.flat_code.specs.Routines.Objects.StandsFor.{Views, Keys, Spells}
 use Rattle.flat_actions.specs.Judgement.Judging.{IsToJudge, IsSameBut, IsJudged, IsJudgeRoutine}
 use Rattle.flat_actions.specs.Actions.{Basis, IsFor, Nowhere, Leaves, context_in, views_of}
 use Rattle.flat_actions.specs.Ranges.{IsObjectRange, IsToMove, HasMovedBytes, IsByteMoveRoutine}

@@ -13,15 +13,15 @@ use Rattle.source_meaning.specs.State.{State as Source, Outcome as Completed, Gi
 use Rattle.source_meaning.specs.Acting.{state_of}
 use Rattle.source_meaning.specs.Actions.{located}
 use Rattle.source_meaning.specs.Bytes.{set_bytes}
-use Rattle.flat_meaning.specs.declared.instruction.FlatInstruction.{FlatInstruction}
-use Rattle.flat_meaning.specs.Memory.{Bytes}
-use Rattle.flat_meaning.specs.State.{State}
-use Rattle.flat_meaning.specs.Meaning.{Context}
-use Rattle.flat_routines.specs.Routine.{Outcome, Continues, Halts, Does, Either, Never}
-use Rattle.flat_routines.specs.Metadata.{View}
-use Rattle.flat_routines.proofs.Rules.{Holds, weaken}
-use Rattle.flat_routines.proofs.Words.{IsLocal}
-use Rattle.flat_routines.specs.Objects.StandsFor.{Views, Keys}
+use Rattle.flat_code.specs.declared.instruction.FlatInstruction.{FlatInstruction}
+use Rattle.flat_code.specs.Memory.{Bytes}
+use Rattle.flat_code.specs.State.{State}
+use Rattle.flat_code.specs.Meaning.{Context}
+use Rattle.flat_code.specs.Routines.Routine.{Outcome, Continues, Halts, Does, Either, Never}
+use Rattle.flat_code.specs.Routines.Metadata.{View}
+use Rattle.flat_code.proofs.Routines.Rules.{Holds, weaken}
+use Rattle.flat_code.proofs.Routines.Words.{IsLocal}
+use Rattle.flat_code.specs.Routines.Objects.StandsFor.{Views, Keys}
 use Rattle.flat_actions.specs.Judgement.Judging.{IsSameBut, IsJudged}
 use Rattle.flat_actions.specs.Actions.{views_of, IsFor, Nowhere, HasGiven, Leaves}
 use Rattle.flat_actions.proofs.Judged.{judged_then, located_then}

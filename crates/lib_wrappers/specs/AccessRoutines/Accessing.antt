@@ -17,13 +17,13 @@ use Rattle.source_meaning.specs.State.{State as Source, ◌>>◌, done}
 use Rattle.source_meaning.specs.Actions.{integer, load, store}
 use Rattle.source_meaning.specs.Keeping.{IsDirect}
 use Rattle.source_meaning.specs.Library.{argument}
-use Rattle.flat_meaning.specs.declared.instruction.RightOperand.TheVariants.{Number}
-use Rattle.flat_meaning.specs.declared.instruction.FlatInstruction.{FlatInstruction}
-use Rattle.flat_meaning.specs.declared.instruction.FlatInstruction.TheVariants.{Constant, Operate, Load, Store, Branch}
-use Rattle.flat_meaning.specs.declared.instruction.FlatInstruction.TheVariants.{JumpForward}
-use Rattle.flat_routines.specs.declared.registers.Held.{Held}
-use Rattle.flat_routines.specs.declared.registers.Entry.{Entry}
-use Rattle.flat_routines.specs.Routine.{unless_code}
+use Rattle.flat_code.specs.declared.instruction.RightOperand.TheVariants.{Number}
+use Rattle.flat_code.specs.declared.instruction.FlatInstruction.{FlatInstruction}
+use Rattle.flat_code.specs.declared.instruction.FlatInstruction.TheVariants.{Constant, Operate, Load, Store, Branch}
+use Rattle.flat_code.specs.declared.instruction.FlatInstruction.TheVariants.{JumpForward}
+use Rattle.flat_code.specs.declared.registers.Held.{Held}
+use Rattle.flat_code.specs.declared.registers.Entry.{Entry}
+use Rattle.flat_code.specs.Routines.Routine.{unless_code}
 use Rattle.shadow_space.specs.Form.{EntryCode}
 use Rattle.flat_actions.specs.Actions.{Basis, Nowhere, Word, Pointer as InPointer, IsAction}
 use Rattle.flat_actions.specs.Actions.{IsActionIn}

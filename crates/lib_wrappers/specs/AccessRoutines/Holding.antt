@@ -2,8 +2,8 @@
 use Rattle.std.specs.Prelude.{ℕ, ◌∷◌}
 use Rattle.obj_memory.specs.declared.value.Scalar.{Scalar}
 use Rattle.obj_memory.specs.declared.value.Scalar.TheVariants.{Integer as OfInteger, Pointer as OfPointer}
-use Rattle.flat_routines.specs.Registers.{AreDistinct}
-use Rattle.flat_routines.specs.Metadata.{held_registers}
+use Rattle.flat_code.specs.Routines.Registers.{AreDistinct}
+use Rattle.flat_code.specs.Routines.Metadata.{held_registers}
 use Rattle.flat_actions.specs.Actions.{Holder, Word, Pointer as InPointer}
 use Rattle.lib_wrappers.specs.declared.accesses.held.HeldScalar.{HeldScalar}
 use Rattle.lib_wrappers.specs.declared.accesses.held.HeldScalar.TheVariants.{Integer, Pointer}

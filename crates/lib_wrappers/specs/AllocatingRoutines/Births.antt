@@ -2,9 +2,9 @@
 use Rattle.std.specs.Prelude.{◌≡◌, ℕ, suc, ◌+◌, ◌*◌, ◌/◌, ◌<◌, ◌≤◌, ◌⊎◌, nat_lt, if◌then◌else◌}
 use Rattle.addr_map.specs.declared.region.Region.TheVariants.{StructureValues}
 use Rattle.addr_map.specs.Places.{MapSizes, spaces_begin, region_start}
-use Rattle.flat_meaning.specs.Memory.{Bytes, Beside, load}
-use Rattle.flat_routines.specs.Metadata.{View, no_metadata, IsObjectWord}
-use Rattle.flat_routines.specs.Objects.StandsFor.{Keys}
+use Rattle.flat_code.specs.Memory.{Bytes, Beside, load}
+use Rattle.flat_code.specs.Routines.Metadata.{View, no_metadata, IsObjectWord}
+use Rattle.flat_code.specs.Routines.Objects.StandsFor.{Keys}
 use Rattle.lock_space.specs.Locks.{key_counter, IsFree}
 use Rattle.lock_space.specs.Routines.{OtherLocksStay}
 use Rattle.heap_space.specs.Rows.{with_row}

@@ -16,15 +16,15 @@ use Rattle.source_meaning.specs.State.{State as Source, Outcome as Completed, Gi
 use Rattle.source_meaning.specs.State.{InObject, Setting}
 use Rattle.source_meaning.specs.Blocks.{objects_end, has_objects, Block, enter_block, leave_block}
 use Rattle.source_meaning.specs.Keeping.{AreSeparate}
-use Rattle.flat_meaning.specs.declared.instruction.RightOperand.TheVariants.{Register, Number}
-use Rattle.flat_meaning.specs.declared.instruction.FlatInstruction.{FlatInstruction}
-use Rattle.flat_meaning.specs.declared.instruction.FlatInstruction.TheVariants.{Constant, Operate, Branch, End}
-use Rattle.flat_meaning.specs.Memory.{Bytes}
-use Rattle.flat_meaning.specs.State.{State}
-use Rattle.flat_routines.specs.Registers.{OthersStay}
-use Rattle.flat_routines.specs.Routine.{Does, Outcome, Continues, Halts, Either, Never}
-use Rattle.flat_routines.specs.Metadata.{View}
-use Rattle.flat_routines.specs.Objects.StandsFor.{Views, Keys}
+use Rattle.flat_code.specs.declared.instruction.RightOperand.TheVariants.{Register, Number}
+use Rattle.flat_code.specs.declared.instruction.FlatInstruction.{FlatInstruction}
+use Rattle.flat_code.specs.declared.instruction.FlatInstruction.TheVariants.{Constant, Operate, Branch, End}
+use Rattle.flat_code.specs.Memory.{Bytes}
+use Rattle.flat_code.specs.State.{State}
+use Rattle.flat_code.specs.Routines.Registers.{OthersStay}
+use Rattle.flat_code.specs.Routines.Routine.{Does, Outcome, Continues, Halts, Either, Never}
+use Rattle.flat_code.specs.Routines.Metadata.{View}
+use Rattle.flat_code.specs.Routines.Objects.StandsFor.{Views, Keys}
 use Rattle.lock_space.specs.Routines.{release_code}
 use Rattle.flat_actions.specs.Actions.{IsFor, KeepsHeld, HasEnded, views_of, context_in, work_of, runtime_basis}
 use Rattle.lib_wrappers.specs.declared.allocating.entering.EntryRegisters.{EntryRegisters}

@@ -7,13 +7,13 @@ use Rattle.addr_map.specs.declared.region.Region.TheVariants.{StructureValues}
 use Rattle.addr_map.specs.Places.{MapSizes, spaces_begin, region_start}
 use Rattle.source_meaning.specs.Heap.{free}
 use Rattle.source_meaning.specs.Library.{argument}
-use Rattle.flat_meaning.specs.declared.instruction.RightOperand.TheVariants.{Register, Number}
-use Rattle.flat_meaning.specs.declared.instruction.FlatInstruction.{FlatInstruction}
-use Rattle.flat_meaning.specs.declared.instruction.FlatInstruction.TheVariants.{Load, Branch, End}
-use Rattle.flat_meaning.specs.Memory.{Bytes, load}
-use Rattle.flat_routines.specs.declared.registers.Held.{Held}
-use Rattle.flat_routines.specs.Routine.{unless_code}
-use Rattle.flat_routines.specs.Metadata.{View, IsObjectWord}
+use Rattle.flat_code.specs.declared.instruction.RightOperand.TheVariants.{Register, Number}
+use Rattle.flat_code.specs.declared.instruction.FlatInstruction.{FlatInstruction}
+use Rattle.flat_code.specs.declared.instruction.FlatInstruction.TheVariants.{Load, Branch, End}
+use Rattle.flat_code.specs.Memory.{Bytes, load}
+use Rattle.flat_code.specs.declared.registers.Held.{Held}
+use Rattle.flat_code.specs.Routines.Routine.{unless_code}
+use Rattle.flat_code.specs.Routines.Metadata.{View, IsObjectWord}
 use Rattle.lock_space.specs.Locks.{key_counter}
 use Rattle.lock_space.specs.Routines.{OtherLocksStay}
 use Rattle.heap_space.specs.Rows.{without_row}

@@ -5,13 +5,13 @@ use Rattle.addr_map.specs.Places.{MapSizes}
 use Rattle.source_meaning.specs.State.{Setting}
 use Rattle.source_meaning.specs.Heap.{realloc}
 use Rattle.source_meaning.specs.Library.{argument}
-use Rattle.flat_meaning.specs.declared.instruction.RightOperand.TheVariants.{Register, Number}
-use Rattle.flat_meaning.specs.declared.instruction.FlatInstruction.{FlatInstruction}
-use Rattle.flat_meaning.specs.declared.instruction.FlatInstruction.TheVariants.{Move, Branch}
-use Rattle.flat_meaning.specs.Memory.{Bytes}
-use Rattle.flat_routines.specs.declared.registers.Held.{Held}
-use Rattle.flat_routines.specs.Routine.{unless_code}
-use Rattle.flat_routines.specs.Metadata.{View}
+use Rattle.flat_code.specs.declared.instruction.RightOperand.TheVariants.{Register, Number}
+use Rattle.flat_code.specs.declared.instruction.FlatInstruction.{FlatInstruction}
+use Rattle.flat_code.specs.declared.instruction.FlatInstruction.TheVariants.{Move, Branch}
+use Rattle.flat_code.specs.Memory.{Bytes}
+use Rattle.flat_code.specs.declared.registers.Held.{Held}
+use Rattle.flat_code.specs.Routines.Routine.{unless_code}
+use Rattle.flat_code.specs.Routines.Metadata.{View}
 use Rattle.flat_actions.specs.Actions.{Word, Pointer, IsActionIn, runtime_basis}
 use Rattle.lib_wrappers.specs.AllocatingRoutines.Premises.{AreStanding}
 use Rattle.lib_wrappers.specs.AllocatingRoutines.Freeing.{life_test, found_test}

@@ -8,14 +8,14 @@ use Rattle.rv_isa.specs.declared.instruction.StoreOp.TheVariants.{Sb, Sd}
 use Rattle.rv_isa.specs.Results.{store_bytes}
 use Rattle.addr_map.specs.declared.region.Region.TheVariants.{Locks}
 use Rattle.addr_map.specs.Places.{MapSizes, spaces_begin, region_start}
-use Rattle.flat_meaning.specs.declared.instruction.RightOperand.TheVariants.{Register, Number}
-use Rattle.flat_meaning.specs.declared.instruction.FlatInstruction.{FlatInstruction}
-use Rattle.flat_meaning.specs.declared.instruction.FlatInstruction.TheVariants.{Constant, Move, Operate, Store}
-use Rattle.flat_meaning.specs.Memory.{Bytes, Beside}
-use Rattle.flat_meaning.specs.State.{State}
-use Rattle.flat_routines.specs.Registers.{OthersStay}
-use Rattle.flat_routines.specs.Routine.{until_code}
-use Rattle.flat_routines.specs.Metadata.{View, no_metadata, IsObjectWord, ShowsNothing}
+use Rattle.flat_code.specs.declared.instruction.RightOperand.TheVariants.{Register, Number}
+use Rattle.flat_code.specs.declared.instruction.FlatInstruction.{FlatInstruction}
+use Rattle.flat_code.specs.declared.instruction.FlatInstruction.TheVariants.{Constant, Move, Operate, Store}
+use Rattle.flat_code.specs.Memory.{Bytes, Beside}
+use Rattle.flat_code.specs.State.{State}
+use Rattle.flat_code.specs.Routines.Registers.{OthersStay}
+use Rattle.flat_code.specs.Routines.Routine.{until_code}
+use Rattle.flat_code.specs.Routines.Metadata.{View, no_metadata, IsObjectWord, ShowsNothing}
 use Rattle.flat_actions.specs.Actions.{AreSpacesGood}
 use Rattle.flat_actions.specs.Ranges.{IsObjectRange, DoesInRuntime}
 

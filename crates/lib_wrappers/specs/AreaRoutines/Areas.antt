@@ -5,11 +5,11 @@ use Rattle.addr_map.specs.declared.region.Region.TheVariants.{StructureValues}
 use Rattle.addr_map.specs.Places.{MapSizes, region_start, region_end}
 use Rattle.obj_memory.specs.declared.value.Tag.TheVariants.{Untagged}
 use Rattle.obj_memory.specs.Objects.{ObjectState}
-use Rattle.flat_meaning.specs.Memory.{Bytes}
-use Rattle.flat_meaning.specs.State.{Values}
-use Rattle.flat_routines.specs.declared.registers.Held.{Held}
-use Rattle.flat_routines.specs.Metadata.{metadata_at}
-use Rattle.flat_routines.specs.Objects.StandsFor.{Views, Keys, spell}
+use Rattle.flat_code.specs.Memory.{Bytes}
+use Rattle.flat_code.specs.State.{Values}
+use Rattle.flat_code.specs.declared.registers.Held.{Held}
+use Rattle.flat_code.specs.Routines.Metadata.{metadata_at}
+use Rattle.flat_code.specs.Routines.Objects.StandsFor.{Views, Keys, spell}
 
 -- ---- where the parts of an area stand
 

@@ -4,16 +4,16 @@ use Rattle.rv_isa.specs.declared.instruction.BranchOp.TheVariants.{Beq}
 use Rattle.rv_isa.specs.declared.instruction.LoadOp.TheVariants.{Ld}
 use Rattle.rv_isa.specs.declared.instruction.RegOp.TheVariants.{Add, Sub}
 use Rattle.rv_isa.specs.declared.instruction.StoreOp.TheVariants.{Sd}
-use Rattle.flat_meaning.specs.declared.instruction.RightOperand.TheVariants.{Number}
-use Rattle.flat_meaning.specs.declared.instruction.FlatInstruction.{FlatInstruction}
-use Rattle.flat_meaning.specs.declared.instruction.FlatInstruction.TheVariants.{Constant, Operate, Load, Store}
-use Rattle.flat_meaning.specs.Memory.{Bytes}
-use Rattle.flat_meaning.specs.State.{State}
-use Rattle.flat_meaning.specs.Meaning.{Context}
-use Rattle.flat_routines.specs.declared.registers.Entry.{Entry}
-use Rattle.flat_routines.specs.Registers.{OthersStay}
-use Rattle.flat_routines.specs.Routine.{Does, Either, Never, until_code}
-use Rattle.flat_routines.specs.Metadata.{ShowsNothing}
+use Rattle.flat_code.specs.declared.instruction.RightOperand.TheVariants.{Number}
+use Rattle.flat_code.specs.declared.instruction.FlatInstruction.{FlatInstruction}
+use Rattle.flat_code.specs.declared.instruction.FlatInstruction.TheVariants.{Constant, Operate, Load, Store}
+use Rattle.flat_code.specs.Memory.{Bytes}
+use Rattle.flat_code.specs.State.{State}
+use Rattle.flat_code.specs.Meaning.{Context}
+use Rattle.flat_code.specs.declared.registers.Entry.{Entry}
+use Rattle.flat_code.specs.Routines.Registers.{OthersStay}
+use Rattle.flat_code.specs.Routines.Routine.{Does, Either, Never, until_code}
+use Rattle.flat_code.specs.Routines.Metadata.{ShowsNothing}
 
 -- ---- the loop
 

@@ -3,14 +3,14 @@ use Rattle.std.specs.Prelude.{◌≡◌, ◌≢◌, ℕ, ◌+◌, ◌*◌, ◌/�
 use Rattle.addr_map.specs.Places.{MapSizes}
 use Rattle.rv_isa.specs.declared.instruction.RegOp.TheVariants.{Add, Sub, Sll, Sltu, Srl, Mul}
 use Rattle.obj_memory.specs.Sound.{DoNotMeet}
-use Rattle.flat_meaning.specs.declared.instruction.RightOperand.TheVariants.{Register, Number}
-use Rattle.flat_meaning.specs.declared.instruction.FlatInstruction.{FlatInstruction}
-use Rattle.flat_meaning.specs.declared.instruction.FlatInstruction.TheVariants.{Constant, Move, Operate}
-use Rattle.flat_meaning.specs.Memory.{KeepsBut}
-use Rattle.flat_meaning.specs.State.{State}
-use Rattle.flat_routines.specs.declared.registers.Held.{Held}
-use Rattle.flat_routines.specs.Registers.{OthersStay}
-use Rattle.flat_routines.specs.Metadata.{metadata_at, no_metadata, ShowsNothing}
+use Rattle.flat_code.specs.declared.instruction.RightOperand.TheVariants.{Register, Number}
+use Rattle.flat_code.specs.declared.instruction.FlatInstruction.{FlatInstruction}
+use Rattle.flat_code.specs.declared.instruction.FlatInstruction.TheVariants.{Constant, Move, Operate}
+use Rattle.flat_code.specs.Memory.{KeepsBut}
+use Rattle.flat_code.specs.State.{State}
+use Rattle.flat_code.specs.declared.registers.Held.{Held}
+use Rattle.flat_code.specs.Routines.Registers.{OthersStay}
+use Rattle.flat_code.specs.Routines.Metadata.{metadata_at, no_metadata, ShowsNothing}
 use Rattle.flat_actions.specs.Ranges.{DoesInRuntime}
 use Rattle.lib_wrappers.specs.AreaRoutines.Areas.{IsAreaPlace, HoldsPart, area_bytes, entries_begin}
 use Rattle.lib_wrappers.specs.AreaRoutines.Loops.{word_loop, zero_body, entry_behind, load_entry, store_entry}

@@ -3,16 +3,16 @@ use Rattle.std.specs.Prelude.{◌≡◌, ℕ, ◌+◌, ◌-◌, ◌*◌, ◌<◌
 use Rattle.addr_map.specs.declared.region.Region.TheVariants.{StructureValues}
 use Rattle.addr_map.specs.Places.{MapSizes, spaces_begin, region_start}
 use Rattle.rv_isa.specs.declared.instruction.RegOp.TheVariants.{Add, Sub, Sll}
-use Rattle.flat_meaning.specs.declared.instruction.RightOperand.TheVariants.{Register, Number}
-use Rattle.flat_meaning.specs.declared.instruction.FlatInstruction.{FlatInstruction}
-use Rattle.flat_meaning.specs.declared.instruction.FlatInstruction.TheVariants.{Operate}
-use Rattle.flat_meaning.specs.Memory.{Bytes}
-use Rattle.flat_meaning.specs.State.{State}
-use Rattle.flat_routines.specs.declared.registers.Held.{Held}
-use Rattle.flat_routines.specs.Registers.{OthersStay}
-use Rattle.flat_routines.specs.Metadata.{View, metadata_at, IsObjectWord, ShowsNothing}
-use Rattle.flat_routines.specs.Objects.StandsFor.{Views}
-use Rattle.flat_routines.specs.Objects.Changes.{KeepsTables, IsMovedWord, IsKeptWord}
+use Rattle.flat_code.specs.declared.instruction.RightOperand.TheVariants.{Register, Number}
+use Rattle.flat_code.specs.declared.instruction.FlatInstruction.{FlatInstruction}
+use Rattle.flat_code.specs.declared.instruction.FlatInstruction.TheVariants.{Operate}
+use Rattle.flat_code.specs.Memory.{Bytes}
+use Rattle.flat_code.specs.State.{State}
+use Rattle.flat_code.specs.declared.registers.Held.{Held}
+use Rattle.flat_code.specs.Routines.Registers.{OthersStay}
+use Rattle.flat_code.specs.Routines.Metadata.{View, metadata_at, IsObjectWord, ShowsNothing}
+use Rattle.flat_code.specs.Routines.Objects.StandsFor.{Views}
+use Rattle.flat_code.specs.Routines.Objects.Changes.{KeepsTables, IsMovedWord, IsKeptWord}
 use Rattle.flat_actions.specs.Actions.{views_of, AreSpacesGood}
 use Rattle.flat_actions.specs.Ranges.{IsObjectRange, DoesInRuntime}
 use Rattle.lib_wrappers.specs.MovingRoutines.Tagged.{count_words}

@@ -2,13 +2,13 @@
 use Rattle.std.specs.Prelude.{◌≡◌, ◌≢◌, ℕ, ◌+◌, ◌*◌, ◌/◌, ◌%◌, ◌<◌, List, [], ◌∷◌, ◌++◌}
 use Rattle.addr_map.specs.Places.{MapSizes}
 use Rattle.rv_isa.specs.declared.instruction.RegOp.TheVariants.{Add, Sll, Sltu, Srl, Mul}
-use Rattle.flat_meaning.specs.declared.instruction.RightOperand.TheVariants.{Register, Number}
-use Rattle.flat_meaning.specs.declared.instruction.FlatInstruction.{FlatInstruction}
-use Rattle.flat_meaning.specs.declared.instruction.FlatInstruction.TheVariants.{Move, Operate}
-use Rattle.flat_meaning.specs.Memory.{Bytes, KeepsBut}
-use Rattle.flat_meaning.specs.State.{State}
-use Rattle.flat_routines.specs.Registers.{OthersStay}
-use Rattle.flat_routines.specs.Metadata.{View, metadata_at, no_metadata, ShowsNothing}
+use Rattle.flat_code.specs.declared.instruction.RightOperand.TheVariants.{Register, Number}
+use Rattle.flat_code.specs.declared.instruction.FlatInstruction.{FlatInstruction}
+use Rattle.flat_code.specs.declared.instruction.FlatInstruction.TheVariants.{Move, Operate}
+use Rattle.flat_code.specs.Memory.{Bytes, KeepsBut}
+use Rattle.flat_code.specs.State.{State}
+use Rattle.flat_code.specs.Routines.Registers.{OthersStay}
+use Rattle.flat_code.specs.Routines.Metadata.{View, metadata_at, no_metadata, ShowsNothing}
 use Rattle.flat_actions.specs.Ranges.{IsObjectRange, DoesInRuntime}
 use Rattle.lib_wrappers.specs.AreaRoutines.Areas.{IsAreaPlace, area_bytes, entries_begin}
 use Rattle.lib_wrappers.specs.AreaRoutines.Loops.{word_loop, entry_behind, store_entry}

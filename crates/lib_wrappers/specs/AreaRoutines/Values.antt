@@ -13,14 +13,14 @@ use Rattle.source_meaning.specs.Actions.{integer, verdict_on}
 use Rattle.source_meaning.specs.Acting.{state_of}
 use Rattle.source_meaning.specs.Keeping.{IsDirect}
 use Rattle.source_meaning.specs.Structures.{taken, make_zero, copy_value}
-use Rattle.flat_meaning.specs.declared.instruction.FlatInstruction.{FlatInstruction}
-use Rattle.flat_meaning.specs.Memory.{Bytes, KeepsBut}
-use Rattle.flat_meaning.specs.State.{State}
-use Rattle.flat_routines.specs.declared.registers.Held.{Held}
-use Rattle.flat_routines.specs.Registers.{OthersStay}
-use Rattle.flat_routines.specs.Routine.{Does, Outcome, Continues, Halts}
-use Rattle.flat_routines.specs.Metadata.{View}
-use Rattle.flat_routines.specs.Objects.StandsFor.{Views, Keys}
+use Rattle.flat_code.specs.declared.instruction.FlatInstruction.{FlatInstruction}
+use Rattle.flat_code.specs.Memory.{Bytes, KeepsBut}
+use Rattle.flat_code.specs.State.{State}
+use Rattle.flat_code.specs.declared.registers.Held.{Held}
+use Rattle.flat_code.specs.Routines.Registers.{OthersStay}
+use Rattle.flat_code.specs.Routines.Routine.{Does, Outcome, Continues, Halts}
+use Rattle.flat_code.specs.Routines.Metadata.{View}
+use Rattle.flat_code.specs.Routines.Objects.StandsFor.{Views, Keys}
 use Rattle.flat_actions.specs.Actions.{IsFor, Nowhere, Leaves, views_of, context_in, runtime_basis, work_of}
 use Rattle.lib_wrappers.specs.AreaRoutines.Areas.{IsAreaPlace, IsArea, HoldsPart, area_bytes}
 use Rattle.lib_wrappers.specs.AreaRoutines.Zeroing.{IsToZeroArea}

@@ -2,15 +2,15 @@
 use Rattle.std.specs.Prelude.{◌≡◌, ◌≢◌, ℕ, ◌+◌, ◌*◌, ◌-◌, ◌^◌, ◌<◌, List, [], ◌∷◌, ◌++◌}
 use Rattle.rv_isa.specs.declared.instruction.BranchOp.TheVariants.{Beq, Bgeu}
 use Rattle.rv_isa.specs.declared.instruction.RegOp.TheVariants.{Add, Sub, Sll}
-use Rattle.flat_meaning.specs.declared.instruction.RightOperand.TheVariants.{Register, Number}
-use Rattle.flat_meaning.specs.declared.instruction.FlatInstruction.{FlatInstruction}
-use Rattle.flat_meaning.specs.declared.instruction.FlatInstruction.TheVariants.{Constant, Operate}
-use Rattle.flat_meaning.specs.Memory.{Bytes}
-use Rattle.flat_meaning.specs.State.{State}
-use Rattle.flat_meaning.specs.Meaning.{Context}
-use Rattle.flat_routines.specs.Registers.{OthersStay}
-use Rattle.flat_routines.specs.Routine.{Does, Either, Never, unless_code, until_code}
-use Rattle.flat_routines.specs.Metadata.{ShowsNothing}
+use Rattle.flat_code.specs.declared.instruction.RightOperand.TheVariants.{Register, Number}
+use Rattle.flat_code.specs.declared.instruction.FlatInstruction.{FlatInstruction}
+use Rattle.flat_code.specs.declared.instruction.FlatInstruction.TheVariants.{Constant, Operate}
+use Rattle.flat_code.specs.Memory.{Bytes}
+use Rattle.flat_code.specs.State.{State}
+use Rattle.flat_code.specs.Meaning.{Context}
+use Rattle.flat_code.specs.Routines.Registers.{OthersStay}
+use Rattle.flat_code.specs.Routines.Routine.{Does, Either, Never, unless_code, until_code}
+use Rattle.flat_code.specs.Routines.Metadata.{ShowsNothing}
 
 -- ---- cells
 

@@ -5,8 +5,8 @@ use Rattle.source_meaning.specs.State.{State as Source, ◌>>◌, done}
 use Rattle.source_meaning.specs.Actions.{integer, copy_structure}
 use Rattle.source_meaning.specs.Library.{argument}
 use Rattle.source_meaning.specs.Keeping.{IsDirect}
-use Rattle.flat_meaning.specs.declared.instruction.FlatInstruction.{FlatInstruction}
-use Rattle.flat_routines.specs.declared.registers.Held.{Held}
+use Rattle.flat_code.specs.declared.instruction.FlatInstruction.{FlatInstruction}
+use Rattle.flat_code.specs.declared.registers.Held.{Held}
 use Rattle.flat_actions.specs.Actions.{Basis, Nowhere, Pointer, IsActionIn}
 
 -- both pointers are to so many bytes of live objects

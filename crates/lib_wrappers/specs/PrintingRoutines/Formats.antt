@@ -8,10 +8,10 @@ use Rattle.c_tree.specs.declared.format.Directive.TheVariants as directive
 use Rattle.c_tree.specs.declared.format.Piece.{Piece}
 use Rattle.c_tree.specs.declared.format.Piece.TheVariants as piece
 use Rattle.source_meaning.specs.Strings.{scan}
-use Rattle.flat_meaning.specs.declared.instruction.RightOperand.TheVariants.{Register, Number}
-use Rattle.flat_meaning.specs.declared.instruction.FlatInstruction.{FlatInstruction}
-use Rattle.flat_meaning.specs.declared.instruction.FlatInstruction.TheVariants.{Constant, Operate, Operate32, Put}
-use Rattle.flat_routines.specs.declared.registers.Held.{Held}
+use Rattle.flat_code.specs.declared.instruction.RightOperand.TheVariants.{Register, Number}
+use Rattle.flat_code.specs.declared.instruction.FlatInstruction.{FlatInstruction}
+use Rattle.flat_code.specs.declared.instruction.FlatInstruction.TheVariants.{Constant, Operate, Operate32, Put}
+use Rattle.flat_code.specs.declared.registers.Held.{Held}
 use Rattle.flat_actions.specs.Actions.{Basis, Holder, Nowhere, Word, Pointer}
 use Rattle.flat_actions.specs.Scanning.{IsScanRoutine}
 use Rattle.lib_wrappers.specs.StringRoutines.Putting.{IsPutRoutine}

@@ -11,10 +11,10 @@ use Rattle.obj_memory.specs.Integers.{fit}
 use Rattle.c_tree.specs.declared.format.Directive.{Directive}
 use Rattle.c_tree.specs.declared.format.Directive.TheVariants as directive
 use Rattle.source_meaning.specs.Actions.{int_of}
-use Rattle.flat_meaning.specs.declared.instruction.RightOperand.TheVariants.{Register, Number}
-use Rattle.flat_meaning.specs.declared.instruction.FlatInstruction.{FlatInstruction}
-use Rattle.flat_meaning.specs.declared.instruction.FlatInstruction.TheVariants.{Constant, Move, Operate, Operate32, Put}
-use Rattle.flat_meaning.specs.declared.instruction.FlatInstruction.TheVariants.{Branch}
+use Rattle.flat_code.specs.declared.instruction.RightOperand.TheVariants.{Register, Number}
+use Rattle.flat_code.specs.declared.instruction.FlatInstruction.{FlatInstruction}
+use Rattle.flat_code.specs.declared.instruction.FlatInstruction.TheVariants.{Constant, Move, Operate, Operate32, Put}
+use Rattle.flat_code.specs.declared.instruction.FlatInstruction.TheVariants.{Branch}
 use Rattle.flat_actions.specs.Ranges.{DoesInRuntime}
 use Rattle.lib_wrappers.specs.PrintingRoutines.Digits.{HasPrinted, digits_code}
 

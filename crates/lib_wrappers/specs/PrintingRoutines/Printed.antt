@@ -5,9 +5,9 @@ use Rattle.c_tree.specs.declared.format.Directive.TheVariants as directive
 use Rattle.c_tree.specs.declared.format.Piece.{Piece}
 use Rattle.c_tree.specs.declared.format.Piece.TheVariants as piece
 use Rattle.source_meaning.specs.Strings.{scan}
-use Rattle.flat_meaning.specs.declared.instruction.FlatInstruction.{FlatInstruction}
-use Rattle.flat_routines.specs.Registers.{AreBelow}
-use Rattle.flat_routines.specs.Metadata.{held_registers}
+use Rattle.flat_code.specs.declared.instruction.FlatInstruction.{FlatInstruction}
+use Rattle.flat_code.specs.Routines.Registers.{AreBelow}
+use Rattle.flat_code.specs.Routines.Metadata.{held_registers}
 use Rattle.flat_actions.specs.Actions.{Basis, Holder, Word, Pointer}
 use Rattle.flat_actions.specs.Scanning.{IsScanRoutine}
 use Rattle.lib_wrappers.specs.StringRoutines.Putting.{IsPutRoutine}

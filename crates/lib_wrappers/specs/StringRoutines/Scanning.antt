@@ -4,11 +4,11 @@ use Rattle.sb_base.specs.declared.ending.Ending.TheVariants.{Spatial}
 use Rattle.rv_isa.specs.declared.instruction.BranchOp.TheVariants.{Beq, Bne}
 use Rattle.rv_isa.specs.declared.instruction.RegOp.TheVariants.{Add, Sub}
 use Rattle.rv_isa.specs.declared.instruction.LoadOp.TheVariants.{Lbu}
-use Rattle.flat_meaning.specs.declared.instruction.RightOperand.TheVariants.{Register, Number}
-use Rattle.flat_meaning.specs.declared.instruction.FlatInstruction.{FlatInstruction}
-use Rattle.flat_meaning.specs.declared.instruction.FlatInstruction.TheVariants.{Constant, Move, Operate, Load, Branch}
-use Rattle.flat_meaning.specs.declared.instruction.FlatInstruction.TheVariants.{JumpBack, End}
-use Rattle.flat_routines.specs.declared.registers.Held.{Held}
+use Rattle.flat_code.specs.declared.instruction.RightOperand.TheVariants.{Register, Number}
+use Rattle.flat_code.specs.declared.instruction.FlatInstruction.{FlatInstruction}
+use Rattle.flat_code.specs.declared.instruction.FlatInstruction.TheVariants.{Constant, Move, Operate, Load, Branch}
+use Rattle.flat_code.specs.declared.instruction.FlatInstruction.TheVariants.{JumpBack, End}
+use Rattle.flat_code.specs.declared.registers.Held.{Held}
 use Rattle.flat_actions.specs.Judgement.Judging.{IsJudgeRoutine}
 
 -- From the byte at the cursor on to the first 0 byte. Behind each other byte comes what a limit asks for, and then the

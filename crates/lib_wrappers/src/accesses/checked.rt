@@ -2,9 +2,9 @@
 
 ghost use Rattle.std.specs.Prelude.{◌≡◌, ◌≤◌, ◌^◌, IfOk, ◌++◌};
 ghost use Rattle.addr_map.specs.Places.{AreMapped};
-ghost use Rattle.flat_meaning.specs.declared.instruction.RightOperand.TheVariants.{Number};
-ghost use Rattle.flat_routines.specs.Registers.{AreBelow};
-ghost use Rattle.flat_routines.specs.Metadata.{held_registers};
+ghost use Rattle.flat_code.specs.declared.instruction.RightOperand.TheVariants.{Number};
+ghost use Rattle.flat_code.specs.Routines.Registers.{AreBelow};
+ghost use Rattle.flat_code.specs.Routines.Metadata.{held_registers};
 ghost use Rattle.flat_actions.specs.Actions.{registers_of, program_basis};
 ghost use Rattle.flat_actions.specs.Judgement.Code.{spatial_code, temporal_code};
 ghost use Rattle.lib_wrappers.specs.AccessRoutines.Holding.{holder_in, IsApartFrom};
@@ -15,8 +15,7 @@ use crate::accesses::loading::load;
 use crate::accesses::storing::store;
 use addr_map::AddrMap;
 use flat_actions::{spatial_instructions, temporal_instructions};
-use flat_meaning::{FlatInstruction, RightOperand};
-use flat_routines::Held;
+use flat_code::{FlatInstruction, Held, RightOperand};
 use sb_base::Line;
 use shadow_space::ShadowForm;
 use std::alloc::{AllocError, Global};

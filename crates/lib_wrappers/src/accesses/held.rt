@@ -4,7 +4,7 @@ ghost use Rattle.std.specs.Prelude.{◌≡◌, ◌≤◌};
 ghost use Rattle.obj_memory.specs.Access.{scalar_size};
 ghost use Rattle.lib_wrappers.specs.AccessRoutines.Holding.{scalar_in};
 
-use flat_routines::Held;
+use flat_code::Held;
 use obj_memory::IntType;
 
 /// A scalar type, and the registers that hold a value of it.

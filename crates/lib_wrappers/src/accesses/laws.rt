@@ -3,9 +3,9 @@
 
 ghost use Rattle.std.specs.Prelude.{ℕ, ◌+◌, ◌∷◌};
 ghost use Rattle.addr_map.specs.Places.{MapSizes, AreMapped};
-ghost use Rattle.flat_routines.specs.Registers.{AreBelow};
-ghost use Rattle.flat_routines.specs.InputOutput.{IsWithoutInputOutput};
-ghost use Rattle.flat_routines.specs.Shape.{HasShape};
+ghost use Rattle.flat_code.specs.Routines.Registers.{AreBelow};
+ghost use Rattle.flat_code.specs.Routines.InputOutput.{IsWithoutInputOutput};
+ghost use Rattle.flat_code.specs.Routines.Shape.{HasShape};
 ghost use Rattle.flat_actions.specs.Actions.{registers_of, program_basis};
 ghost use Rattle.lib_wrappers.specs.declared.accesses.held.HeldScalar.{HeldScalar};
 ghost use Rattle.lib_wrappers.specs.AccessRoutines.Holding.{holder_in, IsApartFrom};
@@ -31,8 +31,8 @@ pub fn loads_are_exact<S: ShadowForm>()
     S::entries_are_read_and_written()
 }
 
-/// The instructions of `store` store a scalar, over whatever registers meet its premises. They name no register from the
-/// fifth behind `scratch` on.
+/// The instructions of `store` store a scalar, over whatever registers meet its premises. They name no register from
+/// the fifth behind `scratch` on.
 pub fn stores_are_exact<S: ShadowForm>()
     ensures does { (map : MapSizes) (address : ℕ) (from : HeldScalar) (t : ℕ) → AreMapped map
         → AreBelow t (address ∷ registers_of (holder_in from))

@@ -2,9 +2,9 @@
 
 ghost use Rattle.std.specs.Prelude.{◌≡◌, ◌≤◌, ◌^◌, IfOk, ◌∷◌, length};
 ghost use Rattle.addr_map.specs.Places.{AreMapped};
-ghost use Rattle.flat_routines.specs.Registers.{AreDistinct, AreBelow};
-ghost use Rattle.flat_routines.specs.Metadata.{held_registers};
-ghost use Rattle.flat_routines.specs.InputOutput.{IsWithoutInputOutput};
+ghost use Rattle.flat_code.specs.Routines.Registers.{AreDistinct, AreBelow};
+ghost use Rattle.flat_code.specs.Routines.Metadata.{held_registers};
+ghost use Rattle.flat_code.specs.Routines.InputOutput.{IsWithoutInputOutput};
 ghost use Rattle.flat_actions.specs.Actions.{registers_of, program_basis};
 ghost use Rattle.lib_wrappers.specs.AccessRoutines.Holding.{holder_in, IsApartFrom};
 ghost use Rattle.lib_wrappers.specs.AccessRoutines.Accessing.{IsLoadRoutine, load_op, load_integer_code};
@@ -13,8 +13,7 @@ ghost use Rattle.lib_wrappers.specs.declared.accesses.held.HeldScalar.TheVariant
 
 use crate::accesses::held::HeldScalar;
 use addr_map::AddrMap;
-use flat_meaning::{FlatInstruction, RightOperand};
-use flat_routines::Held;
+use flat_code::{FlatInstruction, Held, RightOperand};
 use obj_memory::IntType;
 use rv_isa::{BranchOp, LoadOp, RegOp};
 use shadow_space::ShadowForm;

@@ -2,9 +2,9 @@
 
 ghost use Rattle.std.specs.Prelude.{◌≡◌, ◌≤◌, ◌^◌, IfOk, ◌∷◌, length};
 ghost use Rattle.addr_map.specs.Places.{AreMapped};
-ghost use Rattle.flat_routines.specs.Registers.{AreBelow};
-ghost use Rattle.flat_routines.specs.Metadata.{held_registers};
-ghost use Rattle.flat_routines.specs.InputOutput.{IsWithoutInputOutput};
+ghost use Rattle.flat_code.specs.Routines.Registers.{AreBelow};
+ghost use Rattle.flat_code.specs.Routines.Metadata.{held_registers};
+ghost use Rattle.flat_code.specs.Routines.InputOutput.{IsWithoutInputOutput};
 ghost use Rattle.flat_actions.specs.Actions.{registers_of, program_basis};
 ghost use Rattle.lib_wrappers.specs.AccessRoutines.Holding.{holder_in};
 ghost use Rattle.lib_wrappers.specs.AccessRoutines.Accessing.{IsStoreRoutine, store_op, store_integer_code};
@@ -13,8 +13,7 @@ ghost use Rattle.lib_wrappers.specs.declared.accesses.held.HeldScalar.TheVariant
 
 use crate::accesses::held::HeldScalar;
 use addr_map::AddrMap;
-use flat_meaning::{FlatInstruction, RightOperand};
-use flat_routines::Held;
+use flat_code::{FlatInstruction, Held, RightOperand};
 use obj_memory::IntType;
 use rv_isa::{BranchOp, RegOp, StoreOp};
 use shadow_space::ShadowForm;
@@ -22,8 +21,8 @@ use std::alloc::{AllocError, Global};
 
 /// Stores the scalar in the registers of `from` through a pointer, which is to bytes of a live object: of a pointer the
 /// entry too, where the address is a multiple of 8. The register of the address alone is needed of the pointer that is
-/// written through. It may write the registers from `scratch` on, takes no input and puts no output. The only refusal is
-/// that memory fails.
+/// written through. It may write the registers from `scratch` on, takes no input and puts no output. The only refusal
+/// is that memory fails.
 pub fn store<S: ShadowForm>(
     alloc: Global,
     map: &AddrMap,

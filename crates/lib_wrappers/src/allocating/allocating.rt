@@ -2,9 +2,9 @@
 
 ghost use Rattle.std.specs.Prelude.{◌≡◌, ◌+◌, ◌≤◌, ◌<◌, ◌^◌, IfOk, [], ◌∷◌};
 ghost use Rattle.addr_map.specs.Places.{AreMapped};
-ghost use Rattle.flat_routines.specs.Shape.{HasShape};
-ghost use Rattle.flat_routines.specs.Registers.{AreBelow, AreDistinct, AreNoneOf};
-ghost use Rattle.flat_routines.specs.Metadata.{held_registers};
+ghost use Rattle.flat_code.specs.Routines.Shape.{HasShape};
+ghost use Rattle.flat_code.specs.Routines.Registers.{AreBelow, AreDistinct, AreNoneOf};
+ghost use Rattle.flat_code.specs.Routines.Metadata.{held_registers};
 ghost use Rattle.lib_wrappers.specs.AllocatingRoutines.Allocating.{IsAllocateRoutine, IsMallocRoutine};
 ghost use Rattle.lib_wrappers.specs.AllocatingRoutines.Allocating.{IsCallocRoutine, keys_code};
 ghost use Rattle.lib_wrappers.specs.AllocatingRoutines.Allocating.{untagged, key_test, whole_bounds, make_code};
@@ -14,9 +14,8 @@ ghost use Rattle.lib_wrappers.specs.AllocatingRoutines.Allocating.{product_code,
 use crate::allocating::zeroing::zero;
 use addr_map::{AddrMap, Region};
 use flat_actions::{joined, unless};
-use flat_meaning::{FlatInstruction, RightOperand};
+use flat_code::{FlatInstruction, Held, RightOperand};
 use flat_operators::constant::put_wide;
-use flat_routines::Held;
 use rv_isa::{BranchOp, LoadOp, RegOp};
 use sb_base::{Ending, Line};
 use shadow_space::ShadowForm;

@@ -3,9 +3,9 @@
 
 ghost use Rattle.std.specs.Prelude.{◌≡◌, ◌+◌, ◌≤◌, ◌<◌, ◌^◌, ◌++◌, IfOk, [], ◌∷◌};
 ghost use Rattle.addr_map.specs.Places.{AreMapped};
-ghost use Rattle.flat_routines.specs.Shape.{HasShape};
-ghost use Rattle.flat_routines.specs.InputOutput.{IsWithoutInputOutput};
-ghost use Rattle.flat_routines.specs.Registers.{AreBelow, AreDistinct, AreNoneOf};
+ghost use Rattle.flat_code.specs.Routines.Shape.{HasShape};
+ghost use Rattle.flat_code.specs.Routines.InputOutput.{IsWithoutInputOutput};
+ghost use Rattle.flat_code.specs.Routines.Registers.{AreBelow, AreDistinct, AreNoneOf};
 ghost use Rattle.lib_wrappers.specs.AllocatingRoutines.Allocating.{key_test};
 ghost use Rattle.lib_wrappers.specs.AllocatingRoutines.Entering.{registers_in, IsEnterRoutine, IsLeaveRoutine};
 ghost use Rattle.lib_wrappers.specs.AllocatingRoutines.Entering.{round_code};
@@ -16,7 +16,7 @@ use crate::allocating::allocating::{key_test, keys_list};
 use crate::allocating::zeroing::zero;
 use addr_map::{AddrMap, Region};
 use flat_actions::joined;
-use flat_meaning::{FlatInstruction, RightOperand};
+use flat_code::{FlatInstruction, RightOperand};
 use rv_isa::{BranchOp, RegOp};
 use sb_base::{Ending, Line};
 use shadow_space::ShadowForm;

@@ -2,15 +2,14 @@
 
 ghost use Rattle.std.specs.Prelude.{◌≡◌, ◌+◌, ◌≤◌, ◌<◌, ◌^◌, IfOk};
 ghost use Rattle.addr_map.specs.Places.{AreMapped};
-ghost use Rattle.flat_routines.specs.Shape.{HasShape};
-ghost use Rattle.flat_routines.specs.Registers.{AreBelow};
-ghost use Rattle.flat_routines.specs.Metadata.{held_registers};
+ghost use Rattle.flat_code.specs.Routines.Shape.{HasShape};
+ghost use Rattle.flat_code.specs.Routines.Registers.{AreBelow};
+ghost use Rattle.flat_code.specs.Routines.Metadata.{held_registers};
 ghost use Rattle.lib_wrappers.specs.AllocatingRoutines.Freeing.{IsFreeRoutine, life_test, found_test, free_code};
 
 use addr_map::AddrMap;
 use flat_actions::{joined, unless};
-use flat_meaning::{FlatInstruction, RightOperand};
-use flat_routines::Held;
+use flat_code::{FlatInstruction, Held, RightOperand};
 use rv_isa::{BranchOp, LoadOp};
 use sb_base::{Ending, Line};
 use shadow_space::ShadowForm;

@@ -7,12 +7,12 @@ ghost use Rattle.obj_memory.specs.declared.object.Storage.TheVariants.{Automatic
 ghost use Rattle.obj_memory.specs.Objects.{Objects, object_at, with_new, with_dead, with_zeroed};
 ghost use Rattle.obj_memory.specs.Sound.{KeepsObjects};
 ghost use Rattle.source_meaning.specs.State.{State as Source, Home};
-ghost use Rattle.flat_meaning.specs.Memory.{Bytes};
-ghost use Rattle.flat_routines.specs.Registers.{AreBelow};
-ghost use Rattle.flat_routines.specs.InputOutput.{IsWithoutInputOutput};
-ghost use Rattle.flat_routines.specs.Shape.{HasShape};
-ghost use Rattle.flat_routines.specs.Metadata.{View};
-ghost use Rattle.flat_routines.specs.Objects.StandsFor.{Views, Keys, StandsFor};
+ghost use Rattle.flat_code.specs.Memory.{Bytes};
+ghost use Rattle.flat_code.specs.Routines.Registers.{AreBelow};
+ghost use Rattle.flat_code.specs.Routines.InputOutput.{IsWithoutInputOutput};
+ghost use Rattle.flat_code.specs.Routines.Shape.{HasShape};
+ghost use Rattle.flat_code.specs.Routines.Metadata.{View};
+ghost use Rattle.flat_code.specs.Routines.Objects.StandsFor.{Views, Keys, StandsFor};
 ghost use Rattle.heap_space.specs.Table.{IsTableGood};
 ghost use Rattle.flat_actions.specs.Actions.{views_of};
 ghost use Rattle.lib_wrappers.specs.AllocatingRoutines.Entering.{IsHomeOf, AreOfLock, AreNewlyKeyed};
@@ -51,8 +51,8 @@ pub fn the_lock_word_of_a_block_stays_its_own()
         → AreOfLock k' x' homes lock }
 {}
 
-/// The instructions of `leave` leave a block, over whatever registers meet its premises, in functions of the program and
-/// of the runtime. They are eleven, and name three registers behind the one that they are given.
+/// The instructions of `leave` leave a block, over whatever registers meet its premises, in functions of the program
+/// and of the runtime. They are eleven, and name three registers behind the one that they are given.
 pub fn blocks_are_left_exactly<S: ShadowForm>()
     ensures does { (map : MapSizes) (lock t : ℕ) → AreMapped map → AreBelow t (lock ∷ [])
         → IsLeaveRoutine map S.entry (S.IsGood map) lock t (leave_code map lock t) }

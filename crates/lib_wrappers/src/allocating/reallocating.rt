@@ -2,9 +2,9 @@
 
 ghost use Rattle.std.specs.Prelude.{◌≡◌, ◌+◌, ◌≤◌, ◌<◌, ◌^◌, IfOk, ◌∷◌};
 ghost use Rattle.addr_map.specs.Places.{AreMapped};
-ghost use Rattle.flat_routines.specs.Shape.{HasShape};
-ghost use Rattle.flat_routines.specs.Registers.{AreBelow, AreDistinct, AreNoneOf};
-ghost use Rattle.flat_routines.specs.Metadata.{held_registers};
+ghost use Rattle.flat_code.specs.Routines.Shape.{HasShape};
+ghost use Rattle.flat_code.specs.Routines.Registers.{AreBelow, AreDistinct, AreNoneOf};
+ghost use Rattle.flat_code.specs.Routines.Metadata.{held_registers};
 ghost use Rattle.lib_wrappers.specs.AllocatingRoutines.Reallocating.{IsReallocRoutine, tests_code, lesser_code};
 ghost use Rattle.lib_wrappers.specs.AllocatingRoutines.Reallocating.{replace_code};
 ghost use Rattle.lib_wrappers.specs.AllocatingRoutines.Reallocating.{reallocating_code};
@@ -14,8 +14,7 @@ use crate::allocating::freeing::{found_test, life_test};
 use crate::moving::move_tagged;
 use addr_map::AddrMap;
 use flat_actions::{joined, unless};
-use flat_meaning::{FlatInstruction, RightOperand};
-use flat_routines::Held;
+use flat_code::{FlatInstruction, Held, RightOperand};
 use rv_isa::BranchOp;
 use sb_base::Line;
 use shadow_space::ShadowForm;

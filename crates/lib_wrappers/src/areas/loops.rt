@@ -4,8 +4,7 @@ ghost use Rattle.std.specs.Prelude.{◌≡◌, ◌+◌, ◌≤◌, ◌^◌, IfOk
 ghost use Rattle.lib_wrappers.specs.AreaRoutines.Loops.{word_loop, store_entry, load_entry};
 
 use flat_actions::{joined, until};
-use flat_meaning::{FlatInstruction, RightOperand};
-use flat_routines::Entry;
+use flat_code::{Entry, FlatInstruction, RightOperand};
 use rv_isa::{BranchOp, LoadOp, RegOp, StoreOp};
 use std::alloc::{AllocError, Global};
 

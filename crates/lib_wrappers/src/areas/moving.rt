@@ -2,12 +2,13 @@
 
 ghost use Rattle.std.specs.Prelude.{◌≡◌, ◌+◌, ◌≤◌, ◌^◌, IfOk, [], ◌∷◌, ◌++◌, length};
 ghost use Rattle.addr_map.specs.Places.{AreMapped};
-ghost use Rattle.flat_routines.specs.InputOutput.{IsWithoutInputOutput};
-ghost use Rattle.flat_routines.specs.Shape.{HasShape};
-ghost use Rattle.flat_routines.specs.Registers.{AreBelow};
-ghost use Rattle.flat_routines.specs.Metadata.{held_registers};
+ghost use Rattle.flat_code.specs.Routines.InputOutput.{IsWithoutInputOutput};
+ghost use Rattle.flat_code.specs.Routines.Shape.{HasShape};
+ghost use Rattle.flat_code.specs.Routines.Registers.{AreBelow};
+ghost use Rattle.flat_code.specs.Routines.Metadata.{held_registers};
 ghost use Rattle.lib_wrappers.specs.AreaRoutines.Loops.{word_loop, zero_body};
-ghost use Rattle.lib_wrappers.specs.AreaRoutines.Moving.{IsMoveAreaRoutine, count_parts, move_body, count_rest, move_parts};
+ghost use Rattle.lib_wrappers.specs.AreaRoutines.Moving.{IsMoveAreaRoutine, count_parts, move_body, count_rest};
+ghost use Rattle.lib_wrappers.specs.AreaRoutines.Moving.{move_parts};
 ghost use Rattle.lib_wrappers.specs.AreaRoutines.Moving.{entry_of_word, clear_rest};
 ghost use Rattle.lib_wrappers.specs.AreaRoutines.Parts.{IsTakePartRoutine};
 
@@ -15,8 +16,7 @@ use crate::areas::loops::{load_entry, store_entry, word_loop};
 use crate::moving::move_usable;
 use addr_map::AddrMap;
 use flat_actions::joined;
-use flat_meaning::{FlatInstruction, RightOperand};
-use flat_routines::{Entry, Held};
+use flat_code::{Entry, FlatInstruction, Held, RightOperand};
 use rv_isa::{RegOp, StoreOp};
 use shadow_space::ShadowForm;
 use std::alloc::{AllocError, Global};

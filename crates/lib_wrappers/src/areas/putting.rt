@@ -2,10 +2,10 @@
 
 ghost use Rattle.std.specs.Prelude.{◌≡◌, ◌+◌, ◌≤◌, ◌^◌, IfOk, [], ◌∷◌, ◌++◌, length};
 ghost use Rattle.addr_map.specs.Places.{AreMapped};
-ghost use Rattle.flat_routines.specs.InputOutput.{IsWithoutInputOutput};
-ghost use Rattle.flat_routines.specs.Shape.{HasShape};
-ghost use Rattle.flat_routines.specs.Registers.{AreBelow};
-ghost use Rattle.flat_routines.specs.Metadata.{held_registers};
+ghost use Rattle.flat_code.specs.Routines.InputOutput.{IsWithoutInputOutput};
+ghost use Rattle.flat_code.specs.Routines.Shape.{HasShape};
+ghost use Rattle.flat_code.specs.Routines.Registers.{AreBelow};
+ghost use Rattle.flat_code.specs.Routines.Metadata.{held_registers};
 ghost use Rattle.lib_wrappers.specs.MovingRoutines.Tagged.{count_words};
 ghost use Rattle.lib_wrappers.specs.AreaRoutines.Putting.{IsPutRangeRoutine, entry_place, put_entries};
 ghost use Rattle.lib_wrappers.specs.AreaRoutines.Values.{IsPutRoutine};
@@ -14,8 +14,7 @@ use crate::areas::loops::{load_entry, word_loop};
 use crate::moving::{count_instructions, move_usable};
 use addr_map::AddrMap;
 use flat_actions::joined;
-use flat_meaning::{FlatInstruction, RightOperand};
-use flat_routines::{Entry, Held};
+use flat_code::{Entry, FlatInstruction, Held, RightOperand};
 use rv_isa::RegOp;
 use shadow_space::ShadowForm;
 use std::alloc::{AllocError, Global};

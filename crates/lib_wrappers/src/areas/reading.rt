@@ -1,8 +1,8 @@
 //! Scalars read out of contents.
 
 ghost use Rattle.std.specs.Prelude.{◌≡◌, ◌+◌, ◌≤◌, ◌^◌, IfOk};
-ghost use Rattle.flat_routines.specs.Registers.{AreDistinct, AreBelow};
-ghost use Rattle.flat_routines.specs.Metadata.{held_registers};
+ghost use Rattle.flat_code.specs.Routines.Registers.{AreDistinct, AreBelow};
+ghost use Rattle.flat_code.specs.Routines.Metadata.{held_registers};
 ghost use Rattle.flat_actions.specs.Actions.{registers_of};
 ghost use Rattle.lib_wrappers.specs.declared.accesses.held.HeldScalar.TheVariants.{Integer, Pointer};
 ghost use Rattle.lib_wrappers.specs.AccessRoutines.Accessing.{load_integer_code};
@@ -12,15 +12,14 @@ ghost use Rattle.lib_wrappers.specs.AreaRoutines.Reading.{read_part_code};
 
 use crate::accesses::{HeldScalar, load_operator};
 use flat_actions::{give_instructions, joined};
-use flat_meaning::{FlatInstruction, RightOperand};
-use flat_routines::{Entry, Held};
+use flat_code::{Entry, FlatInstruction, Held, RightOperand};
 use obj_memory::IntType;
 use rv_isa::{LoadOp, RegOp};
 use std::alloc::{AllocError, Global};
 
-/// Reads the scalar at the beginning of a part of contents into the registers of `into`, which may be those of the part:
-/// a pointer with its entry where a word begins there, and with none elsewhere. It may write the registers from `scratch`
-/// on, and shows no access, in functions of the program too. The only refusal is that memory fails.
+/// Reads the scalar at the beginning of a part of contents into the registers of `into`, which may be those of the
+/// part: a pointer with its entry where a word begins there, and with none elsewhere. It may write the registers from
+/// `scratch` on, and shows no access, in functions of the program too. The only refusal is that memory fails.
 pub fn read_part(
     alloc: Global,
     part: Held,

@@ -2,9 +2,9 @@
 
 ghost use Rattle.std.specs.Prelude.{◌≡◌, ◌+◌, ◌≤◌, ◌^◌, IfOk, [], ◌∷◌, length};
 ghost use Rattle.addr_map.specs.Places.{AreMapped};
-ghost use Rattle.flat_routines.specs.InputOutput.{IsWithoutInputOutput};
-ghost use Rattle.flat_routines.specs.Shape.{HasShape};
-ghost use Rattle.flat_routines.specs.Registers.{AreBelow};
+ghost use Rattle.flat_code.specs.Routines.InputOutput.{IsWithoutInputOutput};
+ghost use Rattle.flat_code.specs.Routines.Shape.{HasShape};
+ghost use Rattle.flat_code.specs.Routines.Registers.{AreBelow};
 ghost use Rattle.lib_wrappers.specs.AreaRoutines.Taking.{IsTakeRangeRoutine, count_entries, take_entries};
 ghost use Rattle.lib_wrappers.specs.AreaRoutines.Values.{IsTakeRoutine};
 
@@ -13,8 +13,7 @@ use crate::areas::zeroing::zero_area_instructions;
 use crate::moving::move_usable;
 use addr_map::AddrMap;
 use flat_actions::joined;
-use flat_meaning::{FlatInstruction, RightOperand};
-use flat_routines::Entry;
+use flat_code::{Entry, FlatInstruction, RightOperand};
 use rv_isa::RegOp;
 use shadow_space::ShadowForm;
 use std::alloc::{AllocError, Global};

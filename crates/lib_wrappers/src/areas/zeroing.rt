@@ -2,16 +2,16 @@
 
 ghost use Rattle.std.specs.Prelude.{◌≡◌, ◌+◌, ◌≤◌, ◌^◌, IfOk, [], ◌∷◌};
 ghost use Rattle.addr_map.specs.Places.{AreMapped};
-ghost use Rattle.flat_routines.specs.InputOutput.{IsWithoutInputOutput};
-ghost use Rattle.flat_routines.specs.Shape.{HasShape};
-ghost use Rattle.flat_routines.specs.Registers.{AreBelow};
+ghost use Rattle.flat_code.specs.Routines.InputOutput.{IsWithoutInputOutput};
+ghost use Rattle.flat_code.specs.Routines.Shape.{HasShape};
+ghost use Rattle.flat_code.specs.Routines.Registers.{AreBelow};
 ghost use Rattle.lib_wrappers.specs.AreaRoutines.Values.{IsMakeZeroRoutine};
 ghost use Rattle.lib_wrappers.specs.AreaRoutines.Zeroing.{IsZeroAreaRoutine, area_words, zero_area_code};
 
 use crate::areas::loops::word_loop;
 use addr_map::AddrMap;
 use flat_actions::joined;
-use flat_meaning::{FlatInstruction, RightOperand};
+use flat_code::{FlatInstruction, RightOperand};
 use rv_isa::{RegOp, StoreOp};
 use shadow_space::ShadowForm;
 use std::alloc::{AllocError, Global};

@@ -2,9 +2,9 @@
 
 ghost use Rattle.std.specs.Prelude.{◌≡◌, ◌+◌, ◌≤◌, ◌^◌, IfOk, [], ◌∷◌};
 ghost use Rattle.addr_map.specs.Places.{AreMapped};
-ghost use Rattle.flat_routines.specs.Shape.{HasShape};
-ghost use Rattle.flat_routines.specs.Registers.{AreNoneOf, AreBelow};
-ghost use Rattle.flat_routines.specs.Metadata.{held_registers};
+ghost use Rattle.flat_code.specs.Routines.Shape.{HasShape};
+ghost use Rattle.flat_code.specs.Routines.Registers.{AreNoneOf, AreBelow};
+ghost use Rattle.flat_code.specs.Routines.Metadata.{held_registers};
 ghost use Rattle.lib_wrappers.specs.ComparingRoutines.Comparing.{IsStrcmp, IsMemcmp, strcmp_code, memcmp_code};
 ghost use Rattle.lib_wrappers.specs.ComparingRoutines.Comparing.{string_loop};
 ghost use Rattle.lib_wrappers.specs.ComparingRoutines.Comparing.{range_loop, order_code, pair_code};
@@ -12,8 +12,7 @@ ghost use Rattle.flat_actions.specs.Actions.{runtime_basis};
 
 use addr_map::AddrMap;
 use flat_actions::judge_instructions;
-use flat_meaning::{FlatInstruction, RightOperand};
-use flat_routines::Held;
+use flat_code::{FlatInstruction, Held, RightOperand};
 use rv_isa::{BranchOp, LoadOp, RegOp};
 use sb_base::{Ending, Line};
 use shadow_space::ShadowForm;

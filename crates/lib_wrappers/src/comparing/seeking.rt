@@ -2,17 +2,16 @@
 
 ghost use Rattle.std.specs.Prelude.{◌≡◌, ◌+◌, ◌≤◌, ◌^◌, IfOk, ◌∷◌};
 ghost use Rattle.addr_map.specs.Places.{AreMapped};
-ghost use Rattle.flat_routines.specs.Shape.{HasShape};
-ghost use Rattle.flat_routines.specs.Registers.{AreNoneOf, AreDistinct, AreBelow};
-ghost use Rattle.flat_routines.specs.Metadata.{held_registers};
+ghost use Rattle.flat_code.specs.Routines.Shape.{HasShape};
+ghost use Rattle.flat_code.specs.Routines.Registers.{AreNoneOf, AreDistinct, AreBelow};
+ghost use Rattle.flat_code.specs.Routines.Metadata.{held_registers};
 ghost use Rattle.lib_wrappers.specs.ComparingRoutines.Seeking.{IsStrchr, strchr_code, seek_start, seek_loop, null_code};
 ghost use Rattle.lib_wrappers.specs.ComparingRoutines.Seeking.{same_entry_code};
 ghost use Rattle.flat_actions.specs.Actions.{runtime_basis};
 
 use addr_map::AddrMap;
 use flat_actions::judge_instructions;
-use flat_meaning::{FlatInstruction, RightOperand};
-use flat_routines::{Entry, Held};
+use flat_code::{Entry, FlatInstruction, Held, RightOperand};
 use rv_isa::{BranchOp, LoadOp, RegOp};
 use sb_base::{Ending, Line};
 use shadow_space::ShadowForm;

@@ -2,9 +2,9 @@
 
 ghost use Rattle.std.specs.Prelude.{◌+◌, ◌≤◌, ◌<◌, ◌^◌, IfOk};
 ghost use Rattle.addr_map.specs.Places.{AreMapped};
-ghost use Rattle.flat_routines.specs.Shape.{HasShape};
-ghost use Rattle.flat_routines.specs.Registers.{AreBelow, AreNoneOf, AreDistinct};
-ghost use Rattle.flat_routines.specs.Metadata.{held_registers};
+ghost use Rattle.flat_code.specs.Routines.Shape.{HasShape};
+ghost use Rattle.flat_code.specs.Routines.Registers.{AreBelow, AreNoneOf, AreDistinct};
+ghost use Rattle.flat_code.specs.Routines.Metadata.{held_registers};
 ghost use Rattle.lib_wrappers.specs.MovingRoutines.Library.{MovesObjects, CopiesObjects, SetsObjects};
 ghost use Rattle.flat_actions.specs.Actions.{runtime_basis};
 
@@ -12,8 +12,7 @@ use crate::moving::filling::fill;
 use crate::moving::moving::move_tagged;
 use addr_map::AddrMap;
 use flat_actions::{guarded, joined, judge};
-use flat_meaning::{FlatInstruction, RightOperand};
-use flat_routines::Held;
+use flat_code::{FlatInstruction, Held, RightOperand};
 use sb_base::Line;
 use shadow_space::ShadowForm;
 use std::alloc::{AllocError, Global};

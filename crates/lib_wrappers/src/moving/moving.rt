@@ -2,9 +2,9 @@
 
 ghost use Rattle.std.specs.Prelude.{◌≡◌, ◌+◌, ◌≤◌, ◌<◌, ◌^◌, ◌++◌, IfOk, [], ◌∷◌, length};
 ghost use Rattle.addr_map.specs.Places.{AreMapped};
-ghost use Rattle.flat_routines.specs.InputOutput.{IsWithoutInputOutput};
-ghost use Rattle.flat_routines.specs.Shape.{HasShape};
-ghost use Rattle.flat_routines.specs.Registers.{AreBelow};
+ghost use Rattle.flat_code.specs.Routines.InputOutput.{IsWithoutInputOutput};
+ghost use Rattle.flat_code.specs.Routines.Shape.{HasShape};
+ghost use Rattle.flat_code.specs.Routines.Registers.{AreBelow};
 ghost use Rattle.flat_actions.specs.Ranges.{IsByteMoveRoutine, IsTaggedMoveRoutine};
 ghost use Rattle.lib_wrappers.specs.MovingRoutines.Copying.{choose_order, copy_loop};
 ghost use Rattle.lib_wrappers.specs.MovingRoutines.Moving.{move_bytes_code, IsUsableMoveRoutine};
@@ -12,8 +12,7 @@ ghost use Rattle.lib_wrappers.specs.MovingRoutines.Tagged.{CopiesEntry, count_wo
 
 use addr_map::AddrMap;
 use flat_actions::{joined, until};
-use flat_meaning::{FlatInstruction, RightOperand};
-use flat_routines::Entry;
+use flat_code::{Entry, FlatInstruction, RightOperand};
 use rv_isa::{BranchOp, LoadOp, RegOp, StoreOp};
 use shadow_space::ShadowForm;
 use std::alloc::{AllocError, Global};
@@ -286,8 +285,8 @@ fn word_instructions(
     joined(alloc, count.as_slice(), cells.as_slice())
 }
 
-/// How many whole words a range has that is moved, none where the two places are not equal modulo 8, and the first of them
-/// there and in the range to move from: in the registers from `scratch` on. The only refusal is that memory fails.
+/// How many whole words a range has that is moved, none where the two places are not equal modulo 8, and the first of
+/// them there and in the range to move from: in the registers from `scratch` on. The only refusal is that memory fails.
 pub fn count_instructions(
     alloc: Global,
     to: u32,

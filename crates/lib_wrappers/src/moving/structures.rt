@@ -2,16 +2,15 @@
 
 ghost use Rattle.std.specs.Prelude.{◌+◌, ◌≤◌, ◌^◌, IfOk};
 ghost use Rattle.addr_map.specs.Places.{AreMapped};
-ghost use Rattle.flat_routines.specs.Registers.{AreBelow};
-ghost use Rattle.flat_routines.specs.Metadata.{held_registers};
+ghost use Rattle.flat_code.specs.Routines.Registers.{AreBelow};
+ghost use Rattle.flat_code.specs.Routines.Metadata.{held_registers};
 ghost use Rattle.lib_wrappers.specs.MovingRoutines.Structures.{CopiesStructure};
 ghost use Rattle.flat_actions.specs.Actions.{runtime_basis};
 
 use crate::moving::moving::move_tagged;
 use addr_map::AddrMap;
 use flat_actions::joined;
-use flat_meaning::FlatInstruction;
-use flat_routines::Held;
+use flat_code::{FlatInstruction, Held};
 use shadow_space::ShadowForm;
 use std::alloc::{AllocError, Global};
 

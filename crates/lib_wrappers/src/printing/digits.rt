@@ -1,10 +1,10 @@
 //! The digits of a number.
 
 ghost use Rattle.std.specs.Prelude.{◌≡◌, ◌+◌, ◌≤◌, ◌<◌, ◌^◌, IfOk};
-ghost use Rattle.flat_meaning.specs.declared.instruction.FlatInstruction.TheVariants.{Operate};
+ghost use Rattle.flat_code.specs.declared.instruction.FlatInstruction.TheVariants.{Operate};
 ghost use Rattle.lib_wrappers.specs.PrintingRoutines.Numbers.{base_code};
 
-use flat_meaning::{FlatInstruction, RightOperand};
+use flat_code::{FlatInstruction, RightOperand};
 use rv_isa::{BranchOp, RegOp};
 use std::alloc::{AllocError, Global};
 

@@ -3,9 +3,9 @@
 ghost use Rattle.std.specs.Prelude.{◌≡◌, ◌≢◌, ◌+◌, ◌≤◌, ◌<◌, ◌^◌, ◌++◌, IfOk};
 ghost use Rattle.rv_isa.specs.declared.instruction.RegOp.TheVariants.{Add};
 ghost use Rattle.c_tree.specs.declared.format.Directive.TheVariants as directive;
-ghost use Rattle.flat_routines.specs.Shape.{HasShape};
-ghost use Rattle.flat_meaning.specs.declared.instruction.RightOperand.TheVariants.{Number};
-ghost use Rattle.flat_meaning.specs.declared.instruction.FlatInstruction.TheVariants.{Operate};
+ghost use Rattle.flat_code.specs.Routines.Shape.{HasShape};
+ghost use Rattle.flat_code.specs.declared.instruction.RightOperand.TheVariants.{Number};
+ghost use Rattle.flat_code.specs.declared.instruction.FlatInstruction.TheVariants.{Operate};
 ghost use Rattle.lib_wrappers.specs.PrintingRoutines.Numbers.{IsNumberRoutine, number_code, sign_code, low_code};
 ghost use Rattle.lib_wrappers.specs.PrintingRoutines.Numbers.{base_code};
 
@@ -13,7 +13,7 @@ use crate::printing::digits::base_instructions;
 use addr_map::AddrMap;
 use c_tree::Directive;
 use flat_actions::joined;
-use flat_meaning::{FlatInstruction, RightOperand};
+use flat_code::{FlatInstruction, RightOperand};
 use rv_isa::{BranchOp, RegOp, RegOp32};
 use std::alloc::{AllocError, Global};
 

@@ -4,9 +4,9 @@ ghost use Rattle.std.specs.Prelude.{◌+◌, ◌<◌, ◌≤◌, ◌^◌, IfOk, 
 ghost use Rattle.addr_map.specs.Places.{AreMapped};
 ghost use Rattle.source_meaning.specs.Strings.{strncpy as strncpy_of};
 ghost use Rattle.source_meaning.specs.Library.{argument};
-ghost use Rattle.flat_routines.specs.Shape.{HasShape};
-ghost use Rattle.flat_routines.specs.Registers.{AreBelow, AreDistinct, AreNoneOf};
-ghost use Rattle.flat_routines.specs.Metadata.{held_registers};
+ghost use Rattle.flat_code.specs.Routines.Shape.{HasShape};
+ghost use Rattle.flat_code.specs.Routines.Registers.{AreBelow, AreDistinct, AreNoneOf};
+ghost use Rattle.flat_code.specs.Routines.Metadata.{held_registers};
 ghost use Rattle.flat_actions.specs.Actions.{IsAction, Pointer, Word, runtime_basis};
 ghost use Rattle.lib_wrappers.specs.StringRoutines.Copying.{IsFilledUp};
 
@@ -14,7 +14,7 @@ use crate::moving::{CopyRegisters, fill, move_bytes};
 use crate::strings::scanning::scan_at_most;
 use addr_map::AddrMap;
 use flat_actions::{guarded, joined, judge};
-use flat_meaning::{FlatInstruction, RightOperand};
+use flat_code::{FlatInstruction, RightOperand};
 use rv_isa::RegOp;
 use sb_base::Line;
 use shadow_space::ShadowForm;

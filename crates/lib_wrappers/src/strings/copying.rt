@@ -4,9 +4,9 @@ ghost use Rattle.std.specs.Prelude.{◌+◌, ◌≤◌, ◌^◌, IfOk, [], ◌�
 ghost use Rattle.addr_map.specs.Places.{AreMapped};
 ghost use Rattle.source_meaning.specs.Strings.{strcpy as strcpy_of, strcat as strcat_of};
 ghost use Rattle.source_meaning.specs.Library.{argument};
-ghost use Rattle.flat_routines.specs.Shape.{HasShape};
-ghost use Rattle.flat_routines.specs.Registers.{AreBelow, AreDistinct, AreNoneOf};
-ghost use Rattle.flat_routines.specs.Metadata.{held_registers};
+ghost use Rattle.flat_code.specs.Routines.Shape.{HasShape};
+ghost use Rattle.flat_code.specs.Routines.Registers.{AreBelow, AreDistinct, AreNoneOf};
+ghost use Rattle.flat_code.specs.Routines.Metadata.{held_registers};
 ghost use Rattle.flat_actions.specs.Actions.{IsAction, Pointer, runtime_basis};
 ghost use Rattle.lib_wrappers.specs.StringRoutines.Copying.{IsCopied};
 
@@ -14,8 +14,7 @@ use crate::moving::move_bytes;
 use crate::strings::scanning::scan;
 use addr_map::AddrMap;
 use flat_actions::{give_instructions, joined, judge};
-use flat_meaning::{FlatInstruction, RightOperand};
-use flat_routines::Held;
+use flat_code::{FlatInstruction, Held, RightOperand};
 use rv_isa::RegOp;
 use sb_base::Line;
 use shadow_space::ShadowForm;

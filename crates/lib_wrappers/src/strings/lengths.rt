@@ -4,16 +4,15 @@ ghost use Rattle.std.specs.Prelude.{◌+◌, ◌≤◌, ◌^◌, IfOk, [], ◌�
 ghost use Rattle.addr_map.specs.Places.{AreMapped};
 ghost use Rattle.source_meaning.specs.Strings.{strlen as strlen_of};
 ghost use Rattle.source_meaning.specs.Library.{argument};
-ghost use Rattle.flat_routines.specs.Shape.{HasShape};
-ghost use Rattle.flat_routines.specs.Registers.{AreBelow};
-ghost use Rattle.flat_routines.specs.Metadata.{held_registers};
+ghost use Rattle.flat_code.specs.Routines.Shape.{HasShape};
+ghost use Rattle.flat_code.specs.Routines.Registers.{AreBelow};
+ghost use Rattle.flat_code.specs.Routines.Metadata.{held_registers};
 ghost use Rattle.flat_actions.specs.Actions.{IsAction, Pointer, Word, runtime_basis};
 
 use crate::strings::scanning::scan;
 use addr_map::AddrMap;
 use flat_actions::joined;
-use flat_meaning::{FlatInstruction, RightOperand};
-use flat_routines::Held;
+use flat_code::{FlatInstruction, Held, RightOperand};
 use rv_isa::RegOp;
 use sb_base::Line;
 use shadow_space::ShadowForm;

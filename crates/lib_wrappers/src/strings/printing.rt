@@ -4,17 +4,16 @@ ghost use Rattle.std.specs.Prelude.{◌≡◌, ◌+◌, ◌≤◌, ◌^◌, IfOk
 ghost use Rattle.addr_map.specs.Places.{AreMapped};
 ghost use Rattle.source_meaning.specs.Printing.{puts as puts_of};
 ghost use Rattle.source_meaning.specs.Library.{argument};
-ghost use Rattle.flat_routines.specs.Shape.{HasShape};
-ghost use Rattle.flat_routines.specs.Registers.{AreBelow};
-ghost use Rattle.flat_routines.specs.Metadata.{held_registers};
+ghost use Rattle.flat_code.specs.Routines.Shape.{HasShape};
+ghost use Rattle.flat_code.specs.Routines.Registers.{AreBelow};
+ghost use Rattle.flat_code.specs.Routines.Metadata.{held_registers};
 ghost use Rattle.flat_actions.specs.Actions.{IsAction, Pointer, Word, runtime_basis};
 ghost use Rattle.lib_wrappers.specs.StringRoutines.Putting.{IsPutRoutine, put_code};
 
 use crate::strings::scanning::scan;
 use addr_map::AddrMap;
 use flat_actions::joined;
-use flat_meaning::{FlatInstruction, RightOperand};
-use flat_routines::Held;
+use flat_code::{FlatInstruction, Held, RightOperand};
 use rv_isa::{BranchOp, LoadOp, RegOp};
 use sb_base::Line;
 use shadow_space::ShadowForm;

@@ -19,10 +19,10 @@ use Rattle.rv_isa.specs.declared.instruction.Instr.{Instr}
 use Rattle.rv_isa.specs.declared.instruction.Instr.TheVariants.{OpImm, ShiftImm, Addiw, ShiftImm32}
 use Rattle.rv_isa.specs.Word.{sext}
 use Rattle.rv_isa.specs.Results.{low_word, imm_result, shift_result, shift32_result, reg_result, reg32_result}
-use Rattle.flat_meaning.specs.declared.instruction.RightOperand.{RightOperand}
-use Rattle.flat_meaning.specs.declared.instruction.RightOperand.TheVariants as right
-use Rattle.flat_meaning.specs.State.{Values}
-use Rattle.flat_meaning.specs.Meaning.{right_value}
+use Rattle.flat_code.specs.declared.instruction.RightOperand.{RightOperand}
+use Rattle.flat_code.specs.declared.instruction.RightOperand.TheVariants as right
+use Rattle.flat_code.specs.State.{Values}
+use Rattle.flat_code.specs.Meaning.{right_value}
 use Rattle.machine_laws.specs.View.Views.{View, gets, accesses_by, perform, GoesOn}
 use Rattle.machine_laws.specs.Blocks.Immediates.{is_immediate, with_immediate, with_shift, with_immediate32}
 use Rattle.machine_laws.specs.Blocks.Immediates.{with_shift32}

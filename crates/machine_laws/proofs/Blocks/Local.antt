@@ -19,11 +19,11 @@ use Rattle.rv_isa.specs.Word.{sext}
 use Rattle.rv_isa.specs.Results.{wrap, low_word, imm_result, shift_result, reg_result, reg32_result}
 use Rattle.rv_isa.specs.Results.{load_bytes, extended}
 use Rattle.rv_isa.specs.Results.{store_bytes}
-use Rattle.flat_meaning.specs.declared.instruction.RightOperand.{RightOperand}
-use Rattle.flat_meaning.specs.declared.instruction.RightOperand.TheVariants as right
-use Rattle.flat_meaning.specs.Memory.{Bytes, load, store}
-use Rattle.flat_meaning.specs.State.{Values}
-use Rattle.flat_meaning.specs.Meaning.{right_value}
+use Rattle.flat_code.specs.declared.instruction.RightOperand.{RightOperand}
+use Rattle.flat_code.specs.declared.instruction.RightOperand.TheVariants as right
+use Rattle.flat_code.specs.Memory.{Bytes, load, store}
+use Rattle.flat_code.specs.State.{Values}
+use Rattle.flat_code.specs.Meaning.{right_value}
 use Rattle.machine_laws.specs.View.Segments.{IsOfData}
 use Rattle.machine_laws.specs.View.Views.{View, gets, address_in, accesses_by, perform, performs, AllGoOn}
 use Rattle.machine_laws.proofs.View.Leaving.{no_access}

@@ -19,8 +19,8 @@ use Rattle.rv_isa.specs.declared.instruction.Instr.TheVariants.{Lui, Load, Store
 use Rattle.rv_isa.specs.Word.{sext}
 use Rattle.rv_isa.specs.Results.{wrap, low_word, imm_result, shift_result, reg_result, extended}
 use Rattle.rv_sim.specs.Accesses.{objects_only}
-use Rattle.flat_meaning.specs.Memory.{Bytes, load, store, KeepsBut}
-use Rattle.flat_meaning.proofs.Stored.{put_same, put_other, load_stored, load_beside, store_beside}
+use Rattle.flat_code.specs.Memory.{Bytes, load, store, KeepsBut}
+use Rattle.flat_code.proofs.Stored.{put_same, put_other, load_stored, load_beside, store_beside}
 use Rattle.machine_laws.specs.View.Segments.{IsOfData}
 use Rattle.machine_laws.specs.View.Views.{View, with_value, gets, address_in, accesses_by, perform, performs, GoesOn}
 use Rattle.machine_laws.specs.View.Views.{AllGoOn}

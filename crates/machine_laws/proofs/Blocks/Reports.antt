@@ -13,8 +13,8 @@ use Rattle.rv_isa.specs.declared.instruction.ImmOp.TheVariants.{Addi}
 use Rattle.rv_isa.specs.declared.instruction.Instr.TheVariants.{Store, OpImm}
 use Rattle.rv_isa.specs.Word.{sext}
 use Rattle.rv_isa.specs.Results.{wrap, imm_result}
-use Rattle.flat_meaning.specs.Memory.{Bytes, store}
-use Rattle.flat_meaning.proofs.Stored.{put_same, store_beside}
+use Rattle.flat_code.specs.Memory.{Bytes, store}
+use Rattle.flat_code.proofs.Stored.{put_same, store_beside}
 use Rattle.machine_laws.specs.View.Segments.{IsOfData}
 use Rattle.machine_laws.specs.View.Views.{View, bytes_from, address_in, perform, performs, AllGoOn}
 use Rattle.machine_laws.proofs.View.Leaving.{no_access}

@@ -5,8 +5,8 @@ use Rattle.std.specs.Prelude.{nat_lt, if◌then◌else◌}
 use Rattle.std.proofs.lemmas.Bool.{cases_lt, lt-ltb, le-ltb}
 use Rattle.std.proofs.lemmas.Option.{slice_get_past}
 use Rattle.addr_map.specs.Places.{functions_begin, function_address}
-use Rattle.flat_meaning.specs.declared.function.FlatProgram.{FlatProgram}
-use Rattle.flat_meaning.specs.Calls.{function_in, is_of_program}
+use Rattle.flat_code.specs.declared.function.FlatProgram.{FlatProgram}
+use Rattle.flat_code.specs.Calls.{function_in, is_of_program}
 use Rattle.machine_laws.specs.Calls.Table.{program_end, source_count, start_bytes, row_address}
 use Rattle.machine_laws.specs.Blocks.Tails.{tails}
 

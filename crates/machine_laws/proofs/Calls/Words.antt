@@ -6,8 +6,8 @@ use Rattle.std.specs.Prelude.{if◌then◌else◌}
 use Rattle.std.proofs.lemmas.Bool.{cases_eq}
 use Rattle.std.proofs.lemmas.List.{append-nil}
 use Rattle.rv_isa.specs.declared.instruction.Instr.{Instr}
-use Rattle.flat_meaning.specs.Memory.{load, store, KeepsBut}
-use Rattle.flat_meaning.proofs.Stored.{load_stored, load_beside, load_kept, store_beside}
+use Rattle.flat_code.specs.Memory.{load, store, KeepsBut}
+use Rattle.flat_code.proofs.Stored.{load_stored, load_beside, load_kept, store_beside}
 use Rattle.machine_laws.specs.View.Views.{View, performs, AllGoOn}
 use Rattle.machine_laws.specs.declared.location.Location.{Location}
 use Rattle.machine_laws.specs.declared.location.Location.TheVariants.{Register, Frame}

@@ -15,13 +15,13 @@ use Rattle.rv_asm.specs.declared.item.Item.TheVariants as item
 use Rattle.rv_asm.specs.Forms.{branch_size}
 use Rattle.rv_asm.specs.Words.{Assembled, HasWords, jump_instrs, branch_instrs}
 use Rattle.machine_laws.specs.View.Views.{Layout, AllStand}
-use Rattle.flat_meaning.specs.declared.instruction.RightOperand.{RightOperand}
-use Rattle.flat_meaning.specs.declared.instruction.FlatInstruction.{FlatInstruction}
-use Rattle.flat_meaning.specs.declared.instruction.FlatInstruction.TheVariants as flat
-use Rattle.flat_meaning.specs.declared.function.FlatFunction.{FlatFunction}
-use Rattle.flat_meaning.specs.declared.function.FlatProgram.{FlatProgram}
-use Rattle.flat_meaning.specs.Calls.{function_in}
-use Rattle.flat_meaning.specs.Meaning.{instruction_at, body_of, parameters_of}
+use Rattle.flat_code.specs.declared.instruction.RightOperand.{RightOperand}
+use Rattle.flat_code.specs.declared.instruction.FlatInstruction.{FlatInstruction}
+use Rattle.flat_code.specs.declared.instruction.FlatInstruction.TheVariants as flat
+use Rattle.flat_code.specs.declared.function.FlatFunction.{FlatFunction}
+use Rattle.flat_code.specs.declared.function.FlatProgram.{FlatProgram}
+use Rattle.flat_code.specs.Calls.{function_in}
+use Rattle.flat_code.specs.Meaning.{instruction_at, body_of, parameters_of}
 use Rattle.reg_plan.specs.declared.plan.FunctionPlan.{FunctionPlan}
 use Rattle.machine_laws.specs.Blocks.Blocks.{used, used_right}
 use Rattle.machine_laws.specs.Calls.Calls.{Keeping, entry_block}

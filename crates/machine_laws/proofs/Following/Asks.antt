@@ -10,8 +10,8 @@ use Rattle.rv_isa.specs.declared.instruction.Instr.{Instr}
 use Rattle.rv_isa.specs.declared.instruction.Instr.TheVariants.{Load, OpImm, Op}
 use Rattle.rv_isa.specs.Word.{sext}
 use Rattle.rv_isa.specs.Results.{wrap, imm_result, reg_result, extended}
-use Rattle.flat_meaning.specs.Memory.{Bytes, load, store}
-use Rattle.flat_meaning.proofs.Stored.{put_same}
+use Rattle.flat_code.specs.Memory.{Bytes, load, store}
+use Rattle.flat_code.proofs.Stored.{put_same}
 use Rattle.machine_laws.specs.View.Views.{View}
 use Rattle.machine_laws.specs.View.Views.{perform, performs, address_in}
 use Rattle.machine_laws.proofs.View.Leaving.{no_access}

@@ -7,15 +7,15 @@ use Rattle.std.proofs.lemmas.Bool.{lt-ltb, and_parts, and_from, not-true}
 use Rattle.addr_map.specs.Places.{MapSizes, region_start, region_size, spaces_begin}
 use Rattle.addr_map.specs.declared.region.Region.TheVariants.{Arguments, Calls, RuntimeCalls}
 use Rattle.rv_isa.specs.declared.instruction.Instr.TheVariants.{Jalr}
-use Rattle.flat_meaning.specs.declared.instruction.FlatInstruction.{FlatInstruction}
-use Rattle.flat_meaning.specs.declared.function.FlatFunction.{FlatFunction}
-use Rattle.flat_meaning.specs.declared.function.FlatProgram.{FlatProgram}
-use Rattle.flat_meaning.specs.Memory.{load}
-use Rattle.flat_meaning.specs.State.{State, Frame}
-use Rattle.flat_meaning.specs.Calls.{function_in, room_if, rooms, arguments}
-use Rattle.flat_meaning.specs.Meaning.{instruction_at, results_of, waiting}
-use Rattle.flat_meaning.specs.Words.{IsOfWords}
-use Rattle.flat_meaning.proofs.Stored as stored
+use Rattle.flat_code.specs.declared.instruction.FlatInstruction.{FlatInstruction}
+use Rattle.flat_code.specs.declared.function.FlatFunction.{FlatFunction}
+use Rattle.flat_code.specs.declared.function.FlatProgram.{FlatProgram}
+use Rattle.flat_code.specs.Memory.{load}
+use Rattle.flat_code.specs.State.{State, Frame}
+use Rattle.flat_code.specs.Calls.{function_in, room_if, rooms, arguments}
+use Rattle.flat_code.specs.Meaning.{instruction_at, results_of, waiting}
+use Rattle.flat_code.specs.Words.{IsOfWords}
+use Rattle.flat_code.proofs.Stored as stored
 use Rattle.reg_plan.specs.declared.plan.FunctionPlan.{FunctionPlan}
 use Rattle.reg_plan.specs.Effects.{is_among, many}
 use Rattle.rv_sim.specs.Run.{Configuration}

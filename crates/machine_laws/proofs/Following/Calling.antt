@@ -11,8 +11,8 @@ use Rattle.rv_isa.specs.declared.instruction.ImmOp.TheVariants.{Addi}
 use Rattle.rv_isa.specs.declared.instruction.Instr.TheVariants.{Op, OpImm}
 use Rattle.rv_isa.specs.Word.{sext}
 use Rattle.rv_isa.specs.Results.{wrap, reg_result, imm_result}
-use Rattle.flat_meaning.specs.Memory.{load, Beside}
-use Rattle.flat_meaning.proofs.Stored as stored
+use Rattle.flat_code.specs.Memory.{load, Beside}
+use Rattle.flat_code.proofs.Stored as stored
 use Rattle.machine_laws.specs.View.Views.{View, performs, AllGoOn}
 use Rattle.machine_laws.proofs.View.Leaving.{no_access}
 use Rattle.machine_laws.specs.Blocks.Blocks.{constant}

@@ -5,8 +5,8 @@ use Rattle.std.proofs.Common.{length-append}
 use Rattle.rv_isa.specs.declared.instruction.Instr.TheVariants.{Lui, Jalr, Ebreak}
 use Rattle.rv_isa.specs.Word.{sext}
 use Rattle.rv_isa.specs.Results.{wrap}
-use Rattle.flat_meaning.specs.Memory.{load, store}
-use Rattle.flat_meaning.proofs.Stored as stored
+use Rattle.flat_code.specs.Memory.{load, store}
+use Rattle.flat_code.proofs.Stored as stored
 use Rattle.rv_sim.specs.Run.{Configuration}
 use Rattle.machine_laws.specs.View.Views.{View, Layout, Fits, StandsAt, AllStand, AllGoOn, Shows, with_value, performs}
 use Rattle.machine_laws.proofs.View.Leaving.{jalr, no_access}

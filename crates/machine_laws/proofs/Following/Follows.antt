@@ -11,18 +11,18 @@ use Rattle.behaviours.specs.Steps.{run}
 use Rattle.behaviours.proofs.Running.{run_last}
 use Rattle.rv_isa.specs.declared.instruction.Instr.{Instr}
 use Rattle.rv_isa.specs.declared.instruction.Instr.TheVariants.{Lui, Jalr}
-use Rattle.flat_meaning.specs.declared.instruction.FlatInstruction.{FlatInstruction}
-use Rattle.flat_meaning.specs.declared.instruction.FlatInstruction.TheVariants as flat
-use Rattle.flat_meaning.specs.declared.function.FlatFunction.{FlatFunction}
-use Rattle.flat_meaning.specs.declared.function.FlatProgram.{FlatProgram}
-use Rattle.flat_meaning.specs.Memory.{Bytes, AreBytes}
-use Rattle.flat_meaning.specs.State.{State, Frame, Stage, Stands, Over, Stuck, seen}
-use Rattle.flat_meaning.specs.Calls.{function_in, room_if, rooms}
-use Rattle.flat_meaning.specs.Meaning.{step, started, flat_meaning, instruction_at, at_instruction, goes_to, local}
-use Rattle.flat_meaning.specs.Meaning.{context}
-use Rattle.flat_meaning.specs.Meaning.{weight_of, cost}
-use Rattle.flat_meaning.specs.Words.{IsOfWords, HasWords}
-use Rattle.flat_meaning.proofs.Words.{step_fits}
+use Rattle.flat_code.specs.declared.instruction.FlatInstruction.{FlatInstruction}
+use Rattle.flat_code.specs.declared.instruction.FlatInstruction.TheVariants as flat
+use Rattle.flat_code.specs.declared.function.FlatFunction.{FlatFunction}
+use Rattle.flat_code.specs.declared.function.FlatProgram.{FlatProgram}
+use Rattle.flat_code.specs.Memory.{Bytes, AreBytes}
+use Rattle.flat_code.specs.State.{State, Frame, Stage, Stands, Over, Stuck, seen}
+use Rattle.flat_code.specs.Calls.{function_in, room_if, rooms}
+use Rattle.flat_code.specs.Meaning.{step, started, flat_meaning, instruction_at, at_instruction, goes_to, local}
+use Rattle.flat_code.specs.Meaning.{context}
+use Rattle.flat_code.specs.Meaning.{weight_of, cost}
+use Rattle.flat_code.specs.Words.{IsOfWords, HasWords}
+use Rattle.flat_code.proofs.Words.{step_fits}
 use Rattle.reg_plan.specs.declared.plan.FunctionPlan.{FunctionPlan}
 use Rattle.reg_plan.specs.Tests.{AreAccepted}
 use Rattle.rv_sim.specs.Run.{Configuration, runs}

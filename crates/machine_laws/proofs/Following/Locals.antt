@@ -27,19 +27,19 @@ use Rattle.machine_laws.specs.View.Views.{View, Fits, AllStand, StaysOutside, pe
 use Rattle.machine_laws.proofs.View.Leaving.{no_access}
 use Rattle.rv_asm.specs.Forms.{branch_size}
 use Rattle.rv_asm.specs.Words.{jump_instrs, branch_instrs}
-use Rattle.flat_meaning.specs.declared.instruction.RightOperand.{RightOperand}
-use Rattle.flat_meaning.specs.declared.instruction.RightOperand.TheVariants as right
-use Rattle.flat_meaning.specs.declared.instruction.FlatInstruction.{FlatInstruction}
-use Rattle.flat_meaning.specs.declared.instruction.FlatInstruction.TheVariants as flat
-use Rattle.flat_meaning.specs.declared.function.FlatFunction.{FlatFunction}
-use Rattle.flat_meaning.specs.declared.function.FlatProgram.{FlatProgram}
-use Rattle.flat_meaning.specs.Memory.{Bytes, put, load, store, KeepsBut}
-use Rattle.flat_meaning.specs.Spaces.{is_of_objects, is_of_runtime, is_allowed}
-use Rattle.flat_meaning.specs.State.{State, Frame, Values}
-use Rattle.flat_meaning.specs.Calls.{function_in, room_if, rooms, charged}
-use Rattle.flat_meaning.specs.Meaning.{instruction_at, is_runtime_function, right_value}
-use Rattle.flat_meaning.specs.Words.{AreWords, IsOfWords}
-use Rattle.flat_meaning.proofs.Stored as stored
+use Rattle.flat_code.specs.declared.instruction.RightOperand.{RightOperand}
+use Rattle.flat_code.specs.declared.instruction.RightOperand.TheVariants as right
+use Rattle.flat_code.specs.declared.instruction.FlatInstruction.{FlatInstruction}
+use Rattle.flat_code.specs.declared.instruction.FlatInstruction.TheVariants as flat
+use Rattle.flat_code.specs.declared.function.FlatFunction.{FlatFunction}
+use Rattle.flat_code.specs.declared.function.FlatProgram.{FlatProgram}
+use Rattle.flat_code.specs.Memory.{Bytes, put, load, store, KeepsBut}
+use Rattle.flat_code.specs.Spaces.{is_of_objects, is_of_runtime, is_allowed}
+use Rattle.flat_code.specs.State.{State, Frame, Values}
+use Rattle.flat_code.specs.Calls.{function_in, room_if, rooms, charged}
+use Rattle.flat_code.specs.Meaning.{instruction_at, is_runtime_function, right_value}
+use Rattle.flat_code.specs.Words.{AreWords, IsOfWords}
+use Rattle.flat_code.proofs.Stored as stored
 use Rattle.reg_plan.specs.declared.plan.FunctionPlan.{FunctionPlan}
 use Rattle.reg_plan.specs.Effects.{read_by, is_read, made_by, makes_only, is_among, many, one, none, two}
 use Rattle.reg_plan.specs.Effects.{operand, Leads}
@@ -53,7 +53,8 @@ use Rattle.machine_laws.proofs.Blocks.Local.{load_puts, store_saves, charged_put
 use Rattle.machine_laws.specs.Calls.Calls.{Keeping}
 use Rattle.machine_laws.proofs.Calls.Words.{kept_above}
 use Rattle.machine_laws.specs.Following.Code.{keeping, block, charged_from, GoesOn, IsLaid, IsEncodable, JumpStands}
-use Rattle.machine_laws.specs.Following.Matching.{object_bytes, space_bytes, IsOfFlat, top_of, record_of, IsAt, ShowsSame}
+use Rattle.machine_laws.specs.Following.Matching.{object_bytes, space_bytes, IsOfFlat, top_of, record_of, IsAt}
+use Rattle.machine_laws.specs.Following.Matching.{ShowsSame}
 use Rattle.machine_laws.specs.Following.Matching.{Meets}
 use Rattle.machine_laws.specs.Following.Start.{layout_of}
 use Rattle.machine_laws.proofs.Following.Runs.{Comes, straight_comes, then_comes, jumps, branches}

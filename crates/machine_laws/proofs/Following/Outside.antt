@@ -13,16 +13,16 @@ use Rattle.rv_isa.specs.declared.instruction.Instr.{Instr}
 use Rattle.rv_isa.specs.declared.instruction.Instr.TheVariants.{Lui, Jalr, Store, OpImm, Ecall}
 use Rattle.rv_isa.specs.Word.{sext}
 use Rattle.rv_isa.specs.Results.{wrap, low_word}
-use Rattle.flat_meaning.specs.declared.instruction.FlatInstruction.{FlatInstruction}
-use Rattle.flat_meaning.specs.declared.instruction.FlatInstruction.TheVariants as flat
-use Rattle.flat_meaning.specs.declared.function.FlatFunction.{FlatFunction}
-use Rattle.flat_meaning.specs.declared.function.FlatProgram.{FlatProgram}
-use Rattle.flat_meaning.specs.Memory.{put, store, KeepsBut}
-use Rattle.flat_meaning.specs.State.{State, Frame}
-use Rattle.flat_meaning.specs.Calls.{function_in}
-use Rattle.flat_meaning.specs.Meaning.{instruction_at}
-use Rattle.flat_meaning.specs.Words.{IsOfWords}
-use Rattle.flat_meaning.proofs.Stored as stored
+use Rattle.flat_code.specs.declared.instruction.FlatInstruction.{FlatInstruction}
+use Rattle.flat_code.specs.declared.instruction.FlatInstruction.TheVariants as flat
+use Rattle.flat_code.specs.declared.function.FlatFunction.{FlatFunction}
+use Rattle.flat_code.specs.declared.function.FlatProgram.{FlatProgram}
+use Rattle.flat_code.specs.Memory.{put, store, KeepsBut}
+use Rattle.flat_code.specs.State.{State, Frame}
+use Rattle.flat_code.specs.Calls.{function_in}
+use Rattle.flat_code.specs.Meaning.{instruction_at}
+use Rattle.flat_code.specs.Words.{IsOfWords}
+use Rattle.flat_code.proofs.Stored as stored
 use Rattle.reg_plan.specs.declared.plan.FunctionPlan.{FunctionPlan}
 use Rattle.reg_plan.specs.Effects.{made_by, is_among, none, Leads}
 use Rattle.rv_sim.specs.declared.stop.Stop.TheVariants.{Exited}

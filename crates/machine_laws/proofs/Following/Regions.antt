@@ -8,7 +8,7 @@ use Rattle.addr_map.specs.Places.{spaces_begin}
 use Rattle.addr_map.specs.declared.region.Region.TheVariants.{Heap, Cells, Arguments, Calls}
 use Rattle.addr_map.specs.declared.region.Region.TheVariants.{RuntimeCalls}
 use Rattle.addr_map.proofs.Order.{in_order, ends_low, objects_inside, others_behind}
-use Rattle.flat_meaning.specs.Spaces.{is_of_objects, is_of_runtime, is_allowed}
+use Rattle.flat_code.specs.Spaces.{is_of_objects, is_of_runtime, is_allowed}
 use Rattle.machine_laws.specs.View.Segments.{IsOfData}
 use Rattle.machine_laws.specs.Following.Matching.{object_bytes, space_bytes, IsOfFlat}
 

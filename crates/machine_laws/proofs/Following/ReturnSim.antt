@@ -3,11 +3,11 @@ use Rattle.std.proofs.Common.{◌≡◌, ◌≢◌, ℕ, ◌+◌, ◌-◌, ◌*�
 use Rattle.std.proofs.Common.{ap, ◌∙◌, subst, arith, Bool, true, List, ◌++◌, length, Option, Some}
 use Rattle.std.proofs.Common.{None, length-append}
 use Rattle.addr_map.specs.Places.{MapSizes, spaces_begin}
-use Rattle.flat_meaning.specs.declared.instruction.FlatInstruction.{FlatInstruction}
-use Rattle.flat_meaning.specs.declared.instruction.FlatInstruction.TheVariants as flat
-use Rattle.flat_meaning.specs.declared.function.FlatProgram.{FlatProgram}
-use Rattle.flat_meaning.specs.Memory.{load, KeepsBut}
-use Rattle.flat_meaning.proofs.Stored as stored
+use Rattle.flat_code.specs.declared.instruction.FlatInstruction.{FlatInstruction}
+use Rattle.flat_code.specs.declared.instruction.FlatInstruction.TheVariants as flat
+use Rattle.flat_code.specs.declared.function.FlatProgram.{FlatProgram}
+use Rattle.flat_code.specs.Memory.{load, KeepsBut}
+use Rattle.flat_code.proofs.Stored as stored
 use Rattle.reg_plan.specs.declared.plan.FunctionPlan.{FunctionPlan}
 use Rattle.reg_plan.specs.Effects.{many, made_by}
 use Rattle.machine_laws.specs.View.Views.{View, AllGoOn, performs}

@@ -10,15 +10,15 @@ use Rattle.rv_isa.specs.declared.instruction.Instr.{Instr}
 use Rattle.rv_isa.specs.declared.instruction.Instr.TheVariants.{Jalr}
 use Rattle.rv_isa.specs.Word.{sext}
 use Rattle.rv_isa.specs.Results.{wrap}
-use Rattle.flat_meaning.specs.declared.instruction.FlatInstruction.TheVariants as flat
-use Rattle.flat_meaning.specs.declared.function.FlatFunction.{FlatFunction}
-use Rattle.flat_meaning.specs.declared.function.FlatProgram.{FlatProgram}
-use Rattle.flat_meaning.specs.Memory.{load, KeepsBut}
-use Rattle.flat_meaning.specs.State.{State, Frame, Values}
-use Rattle.flat_meaning.specs.Calls.{function_in, room_if, rooms, with_results}
-use Rattle.flat_meaning.specs.Meaning.{instruction_at, results_of}
-use Rattle.flat_meaning.specs.Words.{IsOfWords}
-use Rattle.flat_meaning.proofs.Stored as stored
+use Rattle.flat_code.specs.declared.instruction.FlatInstruction.TheVariants as flat
+use Rattle.flat_code.specs.declared.function.FlatFunction.{FlatFunction}
+use Rattle.flat_code.specs.declared.function.FlatProgram.{FlatProgram}
+use Rattle.flat_code.specs.Memory.{load, KeepsBut}
+use Rattle.flat_code.specs.State.{State, Frame, Values}
+use Rattle.flat_code.specs.Calls.{function_in, room_if, rooms, with_results}
+use Rattle.flat_code.specs.Meaning.{instruction_at, results_of}
+use Rattle.flat_code.specs.Words.{IsOfWords}
+use Rattle.flat_code.proofs.Stored as stored
 use Rattle.reg_plan.specs.declared.plan.FunctionPlan.{FunctionPlan}
 use Rattle.reg_plan.specs.Effects.{is_among, none, many, is_read}
 use Rattle.rv_sim.specs.Run.{Configuration}

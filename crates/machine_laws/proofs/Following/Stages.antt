@@ -9,19 +9,19 @@ use Rattle.addr_map.specs.Places.{MapSizes, region_size, function_address, funct
 use Rattle.addr_map.specs.declared.region.Region.TheVariants.{RuntimeCalls}
 use Rattle.sb_base.specs.Endings.{code_of, report_of}
 use Rattle.rv_isa.specs.Results.{wrap, low_word, branch_taken, reg_result, reg32_result, load_bytes, store_bytes}
-use Rattle.flat_meaning.specs.declared.instruction.FlatInstruction.{FlatInstruction}
-use Rattle.flat_meaning.specs.declared.instruction.FlatInstruction.TheVariants as flat
-use Rattle.flat_meaning.specs.declared.function.FlatFunction.{FlatFunction}
-use Rattle.flat_meaning.specs.declared.function.FlatProgram.{FlatProgram}
-use Rattle.flat_meaning.specs.Memory.{put}
-use Rattle.flat_meaning.specs.Spaces.{is_allowed}
-use Rattle.flat_meaning.specs.State.{State, Frame, Stands, Stuck}
-use Rattle.flat_meaning.specs.Calls.{function_in, room_if, rooms, charged, arguments, with_results, function_at}
-use Rattle.flat_meaning.specs.Calls.{is_of_program}
-use Rattle.flat_meaning.specs.Meaning.{instruction_at, parameters_of, results_of, weight_of, cost, step}
-use Rattle.flat_meaning.specs.Meaning.{goes_to, local, context, right_value, with_register}
-use Rattle.flat_meaning.specs.Meaning.{enters, enters_at, returns, has_room, waiting}
-use Rattle.flat_meaning.specs.Words.{IsOfWords}
+use Rattle.flat_code.specs.declared.instruction.FlatInstruction.{FlatInstruction}
+use Rattle.flat_code.specs.declared.instruction.FlatInstruction.TheVariants as flat
+use Rattle.flat_code.specs.declared.function.FlatFunction.{FlatFunction}
+use Rattle.flat_code.specs.declared.function.FlatProgram.{FlatProgram}
+use Rattle.flat_code.specs.Memory.{put}
+use Rattle.flat_code.specs.Spaces.{is_allowed}
+use Rattle.flat_code.specs.State.{State, Frame, Stands, Stuck}
+use Rattle.flat_code.specs.Calls.{function_in, room_if, rooms, charged, arguments, with_results, function_at}
+use Rattle.flat_code.specs.Calls.{is_of_program}
+use Rattle.flat_code.specs.Meaning.{instruction_at, parameters_of, results_of, weight_of, cost, step}
+use Rattle.flat_code.specs.Meaning.{goes_to, local, context, right_value, with_register}
+use Rattle.flat_code.specs.Meaning.{enters, enters_at, returns, has_room, waiting}
+use Rattle.flat_code.specs.Words.{IsOfWords}
 use Rattle.reg_plan.specs.declared.plan.FunctionPlan.{FunctionPlan}
 use Rattle.reg_plan.specs.Effects.{is_among, is_read, many, one, none, read_by, makes_only, Leads}
 use Rattle.rv_sim.specs.Run.{Configuration}

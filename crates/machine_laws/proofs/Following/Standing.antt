@@ -7,14 +7,14 @@ use Rattle.addr_map.specs.Places.{MapSizes, region_start}
 use Rattle.addr_map.specs.declared.region.Region.TheVariants.{Calls, RuntimeCalls}
 use Rattle.behaviours.specs.Shown.{Access}
 use Rattle.rv_isa.specs.declared.instruction.Instr.{Instr}
-use Rattle.flat_meaning.specs.declared.instruction.FlatInstruction.{FlatInstruction}
-use Rattle.flat_meaning.specs.declared.function.FlatFunction.{FlatFunction}
-use Rattle.flat_meaning.specs.declared.function.FlatProgram.{FlatProgram}
-use Rattle.flat_meaning.specs.Memory.{Bytes, put, KeepsBut}
-use Rattle.flat_meaning.specs.State.{State, Frame}
-use Rattle.flat_meaning.specs.Calls.{function_in, room_if, rooms}
-use Rattle.flat_meaning.specs.Meaning.{instruction_at, body_of, is_runtime_function}
-use Rattle.flat_meaning.proofs.Stored.{put_same, put_other, load_kept}
+use Rattle.flat_code.specs.declared.instruction.FlatInstruction.{FlatInstruction}
+use Rattle.flat_code.specs.declared.function.FlatFunction.{FlatFunction}
+use Rattle.flat_code.specs.declared.function.FlatProgram.{FlatProgram}
+use Rattle.flat_code.specs.Memory.{Bytes, put, KeepsBut}
+use Rattle.flat_code.specs.State.{State, Frame}
+use Rattle.flat_code.specs.Calls.{function_in, room_if, rooms}
+use Rattle.flat_code.specs.Meaning.{instruction_at, body_of, is_runtime_function}
+use Rattle.flat_code.proofs.Stored.{put_same, put_other, load_kept}
 use Rattle.reg_plan.specs.declared.plan.FunctionPlan.{FunctionPlan}
 use Rattle.reg_plan.specs.Effects.{made_by, is_among, one, Leads}
 use Rattle.machine_laws.specs.View.Views.{View, performs}

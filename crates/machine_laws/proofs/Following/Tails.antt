@@ -19,8 +19,8 @@ use Rattle.rv_isa.specs.declared.instruction.Instr.{Instr}
 use Rattle.rv_isa.specs.declared.instruction.Instr.TheVariants.{Branch, Store, OpImm, Op, Op32, Ecall}
 use Rattle.rv_isa.specs.Word.{sext}
 use Rattle.rv_isa.specs.Results.{wrap, low_word, imm_result, reg_result, reg32_result, branch_taken}
-use Rattle.flat_meaning.specs.Memory.{Bytes, store}
-use Rattle.flat_meaning.proofs.Stored.{store_beside}
+use Rattle.flat_code.specs.Memory.{Bytes, store}
+use Rattle.flat_code.proofs.Stored.{store_beside}
 use Rattle.rv_sim.specs.declared.stop.Stop.TheVariants.{Exited}
 use Rattle.rv_sim.specs.Run.{Configuration, Turn, runs}
 use Rattle.machine_laws.specs.View.Segments.{IsOfData}

@@ -12,17 +12,17 @@ use Rattle.behaviours.specs.Shown.{Access, Read, Write}
 use Rattle.rv_isa.specs.declared.instruction.LoadOp.{LoadOp}
 use Rattle.rv_isa.specs.declared.instruction.StoreOp.{StoreOp}
 use Rattle.rv_isa.specs.Results.{wrap, load_bytes, extended, store_bytes}
-use Rattle.flat_meaning.specs.declared.instruction.FlatInstruction.TheVariants as flat
-use Rattle.flat_meaning.specs.declared.function.FlatFunction.{FlatFunction}
-use Rattle.flat_meaning.specs.declared.function.FlatProgram.{FlatProgram}
-use Rattle.flat_meaning.specs.Memory.{put, load, store}
-use Rattle.flat_meaning.specs.Spaces.{is_of_objects, is_allowed}
-use Rattle.flat_meaning.specs.State.{State, Frame, Values, Stage, Stands, Over, Stuck, seen}
-use Rattle.flat_meaning.specs.Calls.{function_in}
-use Rattle.flat_meaning.specs.Meaning.{instruction_at, body_of, is_runtime_function, weight_of, cost, step}
-use Rattle.flat_meaning.specs.Meaning.{at_instruction, goes_to, Goes, Fails, context}
-use Rattle.flat_meaning.specs.Meaning.{with_access, with_register, received}
-use Rattle.flat_meaning.specs.Words.{IsOfWords}
+use Rattle.flat_code.specs.declared.instruction.FlatInstruction.TheVariants as flat
+use Rattle.flat_code.specs.declared.function.FlatFunction.{FlatFunction}
+use Rattle.flat_code.specs.declared.function.FlatProgram.{FlatProgram}
+use Rattle.flat_code.specs.Memory.{put, load, store}
+use Rattle.flat_code.specs.Spaces.{is_of_objects, is_allowed}
+use Rattle.flat_code.specs.State.{State, Frame, Values, Stage, Stands, Over, Stuck, seen}
+use Rattle.flat_code.specs.Calls.{function_in}
+use Rattle.flat_code.specs.Meaning.{instruction_at, body_of, is_runtime_function, weight_of, cost, step}
+use Rattle.flat_code.specs.Meaning.{at_instruction, goes_to, Goes, Fails, context}
+use Rattle.flat_code.specs.Meaning.{with_access, with_register, received}
+use Rattle.flat_code.specs.Words.{IsOfWords}
 use Rattle.reg_plan.specs.declared.plan.FunctionPlan.{FunctionPlan}
 use Rattle.reg_plan.specs.Effects.{is_among, one}
 use Rattle.rv_sim.specs.Run.{Configuration, Turn, runs}

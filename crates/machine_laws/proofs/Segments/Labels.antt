@@ -10,11 +10,11 @@ use Rattle.rv_asm.specs.declared.item.Item.{Item}
 use Rattle.rv_asm.specs.declared.item.Item.TheVariants as item
 use Rattle.rv_asm.specs.Items.{AreApart, AreThere, target_of}
 use Rattle.rv_asm.specs.Forms.{IsAssemblable, longest_size}
-use Rattle.flat_meaning.specs.declared.instruction.FlatInstruction.{FlatInstruction}
-use Rattle.flat_meaning.specs.declared.instruction.FlatInstruction.TheVariants as flat
-use Rattle.flat_meaning.specs.declared.function.FlatProgram.{FlatProgram}
-use Rattle.flat_meaning.specs.Calls.{function_in}
-use Rattle.flat_meaning.specs.Meaning.{body_of, parameters_of}
+use Rattle.flat_code.specs.declared.instruction.FlatInstruction.{FlatInstruction}
+use Rattle.flat_code.specs.declared.instruction.FlatInstruction.TheVariants as flat
+use Rattle.flat_code.specs.declared.function.FlatProgram.{FlatProgram}
+use Rattle.flat_code.specs.Calls.{function_in}
+use Rattle.flat_code.specs.Meaning.{body_of, parameters_of}
 use Rattle.reg_plan.specs.declared.plan.FunctionPlan.{FunctionPlan}
 use Rattle.machine_laws.specs.Calls.Calls.{Keeping, entry_block}
 use Rattle.machine_laws.specs.Following.Code.{keeping, block}

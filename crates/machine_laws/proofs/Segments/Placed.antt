@@ -13,10 +13,10 @@ use Rattle.rv_asm.specs.Words.{Assembled, words_of}
 use Rattle.rv_sim.specs.Memory.{fetch}
 use Rattle.machine_laws.specs.View.Segments.{segments}
 use Rattle.machine_laws.specs.View.Views.{Layout, AllStand}
-use Rattle.flat_meaning.specs.declared.function.FlatFunction.{FlatFunction}
-use Rattle.flat_meaning.specs.declared.function.FlatProgram.{FlatProgram}
-use Rattle.flat_meaning.specs.Calls.{function_in}
-use Rattle.flat_meaning.specs.Meaning.{is_runtime_function}
+use Rattle.flat_code.specs.declared.function.FlatFunction.{FlatFunction}
+use Rattle.flat_code.specs.declared.function.FlatProgram.{FlatProgram}
+use Rattle.flat_code.specs.Calls.{function_in}
+use Rattle.flat_code.specs.Meaning.{is_runtime_function}
 use Rattle.reg_plan.specs.declared.plan.FunctionPlan.{FunctionPlan}
 use Rattle.machine_laws.specs.Calls.Calls.{row}
 use Rattle.machine_laws.specs.Following.Start.{layout_of, start_block}

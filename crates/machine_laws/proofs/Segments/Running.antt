@@ -5,10 +5,10 @@ use Rattle.addr_map.specs.declared.region.Region.TheVariants.{Heap, RuntimeCalls
 use Rattle.addr_map.proofs.Order.{objects_inside, ends_low}
 use Rattle.behaviours.specs.Behaviour.{Follows}
 use Rattle.behaviours.specs.Steps.{run}
-use Rattle.flat_meaning.specs.declared.function.FlatProgram.{FlatProgram}
-use Rattle.flat_meaning.specs.Memory.{Bytes, AreBytes}
-use Rattle.flat_meaning.specs.State.{Stuck}
-use Rattle.flat_meaning.specs.Meaning.{step, started, flat_meaning}
+use Rattle.flat_code.specs.declared.function.FlatProgram.{FlatProgram}
+use Rattle.flat_code.specs.Memory.{Bytes, AreBytes}
+use Rattle.flat_code.specs.State.{Stuck}
+use Rattle.flat_code.specs.Meaning.{step, started, flat_meaning}
 use Rattle.reg_plan.specs.declared.plan.FunctionPlan.{FunctionPlan}
 use Rattle.reg_plan.specs.Tests.{AreAccepted}
 use Rattle.rv_asm.specs.declared.item.Item.{Item}

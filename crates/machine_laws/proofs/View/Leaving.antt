@@ -12,7 +12,7 @@ use Rattle.rv_isa.specs.declared.instruction.Instr.TheVariants.{Jal, Jalr, Branc
 use Rattle.rv_isa.specs.Table.{word_of}
 use Rattle.rv_isa.specs.Word.{sext}
 use Rattle.rv_isa.specs.Results.{wrap, branch_taken}
-use Rattle.flat_meaning.specs.Memory.{Bytes, store as store_of}
+use Rattle.flat_code.specs.Memory.{Bytes, store as store_of}
 use Rattle.rv_sim.specs.declared.trap.Action.TheVariants.{Ask}
 use Rattle.rv_sim.specs.declared.stop.Stop.TheVariants.{Exited}
 use Rattle.std.specs.Prelude.{slice_get, drop}

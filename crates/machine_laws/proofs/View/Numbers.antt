@@ -9,8 +9,8 @@ use Rattle.std.proofs.lemmas.Bool.{cases_lt}
 use Rattle.std.proofs.Math.Nat.{pow-suc, div-div-eq-div-mul}
 use Rattle.byteorder.specs.Endian.{little_number, little_bytes, little_from}
 use Rattle.byteorder.specs.Numbers.{length-bytes_low_first}
-use Rattle.flat_meaning.specs.Memory.{Bytes, put, load, store}
-use Rattle.flat_meaning.proofs.Stored.{put_same, store_beside}
+use Rattle.flat_code.specs.Memory.{Bytes, put, load, store}
+use Rattle.flat_code.proofs.Stored.{put_same, store_beside}
 
 -- the bytes of a list stand in a memory from an address on
 pub record StandAt (m : Bytes) (address : ℕ) (bytes : List ℕ) : Type 0 where

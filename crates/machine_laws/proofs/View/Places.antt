@@ -5,8 +5,8 @@ use Rattle.std.specs.Prelude.{slice_index, slice_get, slice_set}
 use Rattle.std.proofs.lemmas.Bool.{le-leb, lt-leb, lt-ltb, le-ltb}
 use Rattle.byteorder.specs.Endian.{little_number}
 use Rattle.addr_map.specs.Places.{functions_begin, code_begin, objects_begin, spaces_begin}
-use Rattle.flat_meaning.specs.Memory.{Bytes, load as load_of, store as store_of}
-use Rattle.flat_meaning.proofs.Stored.{store_beside}
+use Rattle.flat_code.specs.Memory.{Bytes, load as load_of, store as store_of}
+use Rattle.flat_code.proofs.Stored.{store_beside}
 use Rattle.rv_sim.specs.Memory.{SegmentState, holds, covers, place_of, load, store, fetch, bytes_at, may_write}
 use Rattle.machine_laws.specs.View.Segments.{code_segment, data_segment, segments, AreApart, Hold, IsOfData}
 use Rattle.machine_laws.specs.View.Views.{bytes_from}

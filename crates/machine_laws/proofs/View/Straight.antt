@@ -20,8 +20,8 @@ use Rattle.rv_isa.proofs.RoundTrip.{decoded-word}
 use Rattle.rv_isa.specs.Word.{sext}
 use Rattle.rv_isa.specs.Results.{wrap, low_word, imm_result, shift_result, shift32_result, reg_result, reg32_result}
 use Rattle.rv_isa.specs.Results.{load_bytes, extended, store_bytes}
-use Rattle.flat_meaning.specs.Memory.{Bytes, put, load as load_of, store as store_of}
-use Rattle.flat_meaning.proofs.Stored.{put_same, put_other}
+use Rattle.flat_code.specs.Memory.{Bytes, put, load as load_of, store as store_of}
+use Rattle.flat_code.proofs.Stored.{put_same, put_other}
 use Rattle.rv_sim.specs.declared.trap.Action.TheVariants.{Done}
 use Rattle.rv_sim.specs.Memory.{load, store, fetch, ◌>>=◌}
 use Rattle.rv_sim.specs.State.{MachineState, register, with_register}

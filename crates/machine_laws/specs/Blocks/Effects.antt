@@ -3,10 +3,10 @@ use Rattle.std.specs.Prelude.{◌≡◌, ◌≢◌, ℕ, ◌+◌, ◌-◌, ◌*�
 use Rattle.behaviours.specs.Shown.{Access}
 use Rattle.addr_map.specs.Places.{spaces_begin}
 use Rattle.rv_isa.specs.declared.instruction.Instr.{Instr}
-use Rattle.flat_meaning.specs.declared.instruction.RightOperand.{RightOperand}
-use Rattle.flat_meaning.specs.declared.instruction.RightOperand.TheVariants as right
-use Rattle.flat_meaning.specs.Memory.{Bytes, load, KeepsBut}
-use Rattle.flat_meaning.specs.State.{Values}
+use Rattle.flat_code.specs.declared.instruction.RightOperand.{RightOperand}
+use Rattle.flat_code.specs.declared.instruction.RightOperand.TheVariants as right
+use Rattle.flat_code.specs.Memory.{Bytes, load, KeepsBut}
+use Rattle.flat_code.specs.State.{Values}
 use Rattle.machine_laws.specs.View.Views.{View, performs, AllGoOn}
 use Rattle.machine_laws.specs.declared.location.Location.{Location}
 use Rattle.machine_laws.specs.declared.location.Location.TheVariants.{Register, Frame}

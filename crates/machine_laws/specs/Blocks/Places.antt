@@ -1,6 +1,6 @@
 -- Where the values of a function are kept on the machine.
 use Rattle.std.specs.Prelude.{ℕ, ◌+◌, ◌*◌, ◌%◌, ◌^◌, nat_lt, if◌then◌else◌, Option, Some, None, slice_get}
-use Rattle.flat_meaning.specs.declared.function.FlatFunction.{FlatFunction}
+use Rattle.flat_code.specs.declared.function.FlatFunction.{FlatFunction}
 use Rattle.reg_plan.specs.declared.plan.Place.{Place}
 use Rattle.reg_plan.specs.declared.plan.Place.TheVariants as place
 use Rattle.reg_plan.specs.declared.plan.FunctionPlan.{FunctionPlan}

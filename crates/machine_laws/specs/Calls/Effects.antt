@@ -2,7 +2,7 @@
 use Rattle.std.specs.Prelude.{◌≡◌, ◌≢◌, ℕ, ◌+◌, ◌-◌, ◌*◌, ◌<◌, ◌≤◌, ◌⊎◌, Bool, true, List, length}
 use Rattle.addr_map.specs.Places.{spaces_begin}
 use Rattle.rv_isa.specs.declared.instruction.Instr.{Instr}
-use Rattle.flat_meaning.specs.Memory.{load, KeepsBut}
+use Rattle.flat_code.specs.Memory.{load, KeepsBut}
 use Rattle.machine_laws.specs.View.Views.{View, performs, AllGoOn}
 use Rattle.machine_laws.specs.declared.location.Location.{Location}
 use Rattle.machine_laws.specs.declared.location.Location.TheVariants.{Frame}

@@ -2,8 +2,8 @@
 -- the functions of the program, before those of the runtime.
 use Rattle.std.specs.Prelude.{ℕ, zero, suc, ◌+◌, ◌*◌, nat_lt, if◌then◌else◌, length}
 use Rattle.addr_map.specs.Places.{functions_begin, function_address}
-use Rattle.flat_meaning.specs.declared.function.FlatProgram.{FlatProgram}
-use Rattle.flat_meaning.specs.Calls.{function_in, is_of_program}
+use Rattle.flat_code.specs.declared.function.FlatProgram.{FlatProgram}
+use Rattle.flat_code.specs.Calls.{function_in, is_of_program}
 use Rattle.machine_laws.specs.Blocks.Tails.{tails}
 
 -- one past the last function of the program of those below a number

@@ -6,12 +6,12 @@ use Rattle.addr_map.specs.declared.region.Region.TheVariants.{Heap, Cells, Argum
 use Rattle.rv_sim.specs.declared.stop.Stop.TheVariants.{Exited}
 use Rattle.rv_sim.specs.Run.{Configuration, Turn}
 use Rattle.machine_laws.specs.View.Views.{View, Layout, Shows}
-use Rattle.flat_meaning.specs.declared.instruction.FlatInstruction.{FlatInstruction}
-use Rattle.flat_meaning.specs.declared.function.FlatProgram.{FlatProgram}
-use Rattle.flat_meaning.specs.Memory.{Bytes, load}
-use Rattle.flat_meaning.specs.State.{State, Frame}
-use Rattle.flat_meaning.specs.Calls.{function_in, room_if, rooms}
-use Rattle.flat_meaning.specs.Meaning.{instruction_at, is_runtime_function, results_of}
+use Rattle.flat_code.specs.declared.instruction.FlatInstruction.{FlatInstruction}
+use Rattle.flat_code.specs.declared.function.FlatProgram.{FlatProgram}
+use Rattle.flat_code.specs.Memory.{Bytes, load}
+use Rattle.flat_code.specs.State.{State, Frame}
+use Rattle.flat_code.specs.Calls.{function_in, room_if, rooms}
+use Rattle.flat_code.specs.Meaning.{instruction_at, is_runtime_function, results_of}
 use Rattle.reg_plan.specs.declared.plan.FunctionPlan.{FunctionPlan}
 use Rattle.reg_plan.specs.Effects.{is_among, many}
 use Rattle.machine_laws.specs.Blocks.Effects.{kept}

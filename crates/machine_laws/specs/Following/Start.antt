@@ -7,11 +7,11 @@ use Rattle.rv_isa.specs.declared.instruction.Instr.TheVariants.{Jalr}
 use Rattle.rv_sim.specs.State.{MachineState}
 use Rattle.machine_laws.specs.View.Segments.{segments}
 use Rattle.machine_laws.specs.View.Views.{Layout}
-use Rattle.flat_meaning.specs.declared.function.FlatFunction.{FlatFunction}
-use Rattle.flat_meaning.specs.declared.function.FlatProgram.{FlatProgram}
-use Rattle.flat_meaning.specs.declared.instruction.FlatInstruction.TheVariants.{Turn}
-use Rattle.flat_meaning.specs.Calls.{function_in, room_if}
-use Rattle.flat_meaning.specs.Meaning.{instruction_at}
+use Rattle.flat_code.specs.declared.function.FlatFunction.{FlatFunction}
+use Rattle.flat_code.specs.declared.function.FlatProgram.{FlatProgram}
+use Rattle.flat_code.specs.declared.instruction.FlatInstruction.TheVariants.{Turn}
+use Rattle.flat_code.specs.Calls.{function_in, room_if}
+use Rattle.flat_code.specs.Meaning.{instruction_at}
 use Rattle.machine_laws.specs.Blocks.Places.{program_frame, argument_words, runtime_frame, callee_scratch}
 use Rattle.machine_laws.specs.Blocks.Blocks.{wide}
 use Rattle.machine_laws.specs.Calls.Table.{row_address}

@@ -13,12 +13,12 @@ use Rattle.rv_asm.specs.Words.{Assembled}
 use Rattle.rv_sim.specs.Memory.{fetch}
 use Rattle.machine_laws.specs.View.Segments.{segments, AreApart}
 use Rattle.machine_laws.specs.View.Views.{Layout, AllStand}
-use Rattle.flat_meaning.specs.declared.instruction.FlatInstruction.{FlatInstruction}
-use Rattle.flat_meaning.specs.declared.instruction.FlatInstruction.TheVariants as flat
-use Rattle.flat_meaning.specs.declared.function.FlatFunction.{FlatFunction}
-use Rattle.flat_meaning.specs.declared.function.FlatProgram.{FlatProgram}
-use Rattle.flat_meaning.specs.Calls.{function_in}
-use Rattle.flat_meaning.specs.Meaning.{body_of, parameters_of}
+use Rattle.flat_code.specs.declared.instruction.FlatInstruction.{FlatInstruction}
+use Rattle.flat_code.specs.declared.instruction.FlatInstruction.TheVariants as flat
+use Rattle.flat_code.specs.declared.function.FlatFunction.{FlatFunction}
+use Rattle.flat_code.specs.declared.function.FlatProgram.{FlatProgram}
+use Rattle.flat_code.specs.Calls.{function_in}
+use Rattle.flat_code.specs.Meaning.{body_of, parameters_of}
 use Rattle.reg_plan.specs.declared.plan.FunctionPlan.{FunctionPlan}
 use Rattle.machine_laws.specs.Blocks.Places.{left_scratch}
 use Rattle.machine_laws.specs.Blocks.Blocks.{used, used_right}

@@ -3,7 +3,7 @@
 use Rattle.std.specs.Prelude.{◌≡◌, ℕ, ◌+◌, ◌^◌, ◌<◌, ◌≤◌, ◌⊎◌, List, [], ◌∷◌, length, true, false, slice_index}
 use Rattle.addr_map.specs.Places.{functions_begin, code_begin, objects_begin, spaces_begin}
 use Rattle.rv_sim.specs.Memory.{SegmentState}
-use Rattle.flat_meaning.specs.Memory.{Bytes}
+use Rattle.flat_code.specs.Memory.{Bytes}
 
 abbrev pub code_segment : (address : ℕ) → List ℕ → SegmentState
 code_segment a bytes = record { address = a; bytes = bytes; readable = false; writable = false; executable = true }

@@ -12,7 +12,7 @@ use Rattle.rv_isa.specs.Table.{word_of, IsOfTable}
 use Rattle.rv_isa.specs.Word.{sext}
 use Rattle.rv_isa.specs.Results.{wrap, low_word, imm_result, shift_result, shift32_result, reg_result, reg32_result}
 use Rattle.rv_isa.specs.Results.{load_bytes, extended, store_bytes}
-use Rattle.flat_meaning.specs.Memory.{Bytes, put, load, store}
+use Rattle.flat_code.specs.Memory.{Bytes, put, load, store}
 use Rattle.rv_sim.specs.Memory.{fetch}
 use Rattle.rv_sim.specs.State.{register}
 use Rattle.rv_sim.specs.Run.{Configuration}

@@ -1,7 +1,7 @@
 //! Laws of calls and returns, each as the contract of a function that does nothing: the back end rests on them.
 
 ghost use Rattle.std.specs.Prelude.{◌≡◌, ◌≢◌, ℕ, ◌+◌, ◌-◌, ◌*◌, ◌^◌, ◌<◌, ◌≤◌, Bool, true, length};
-ghost use Rattle.flat_meaning.specs.Memory.{load};
+ghost use Rattle.flat_code.specs.Memory.{load};
 ghost use Rattle.machine_laws.specs.View.Views.{View};
 ghost use Rattle.machine_laws.specs.Blocks.Effects.{IsIn, AreApart, kept, HasFrame};
 ghost use Rattle.machine_laws.specs.Calls.Calls.{Keeping, give, take, save, restore, advance};

@@ -3,7 +3,7 @@
 
 ghost use Rattle.std.specs.Prelude.{◌≡◌, ◌+◌, ◌≤◌, ◌%◌, ℕ, List, length};
 ghost use Rattle.addr_map.specs.Places.{MapSizes, functions_begin, code_begin, code_size};
-ghost use Rattle.flat_meaning.specs.declared.function.FlatProgram.{FlatProgram};
+ghost use Rattle.flat_code.specs.declared.function.FlatProgram.{FlatProgram};
 ghost use Rattle.reg_plan.specs.declared.plan.FunctionPlan.{FunctionPlan};
 ghost use Rattle.machine_laws.specs.View.Views.{Layout};
 ghost use Rattle.machine_laws.specs.Following.Code.{IsLaid};

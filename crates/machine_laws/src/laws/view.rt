@@ -4,7 +4,7 @@ ghost use Rattle.std.specs.Prelude.{◌≡◌, ℕ, ◌+◌, ◌%◌, ◌<◌, �
 ghost use Rattle.std.specs.Prelude.{true, length, drop};
 ghost use Rattle.byteorder.specs.Endian.{little_number};
 ghost use Rattle.addr_map.specs.Places.{functions_begin, code_begin};
-ghost use Rattle.flat_meaning.specs.Memory.{Bytes, load as load_of, store as store_of};
+ghost use Rattle.flat_code.specs.Memory.{Bytes, load as load_of, store as store_of};
 ghost use Rattle.rv_sim.specs.Memory.{load, store, fetch, bytes_at, may_write};
 ghost use Rattle.rv_isa.specs.declared.instruction.BranchOp.{BranchOp};
 ghost use Rattle.rv_isa.specs.declared.instruction.Instr.{Instr};

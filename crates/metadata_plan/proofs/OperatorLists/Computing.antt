@@ -21,20 +21,20 @@ use Rattle.obj_memory.specs.declared.operator.BinaryOperator.TheVariants.{BitOr,
 use Rattle.obj_memory.specs.declared.operator.BinaryOperator.TheVariants.{GreaterOrEqual, Equal, NotEqual}
 use Rattle.obj_memory.specs.Integers.{fit, is_signed}
 use Rattle.obj_memory.specs.Operators.{quotient, remainder, binary_value}
-use Rattle.flat_meaning.specs.declared.instruction.RightOperand.TheVariants.{Register}
-use Rattle.flat_meaning.specs.declared.instruction.FlatInstruction.{FlatInstruction}
-use Rattle.flat_meaning.specs.declared.instruction.FlatInstruction.TheVariants.{Constant, Operate, End}
-use Rattle.flat_meaning.specs.declared.function.FlatProgram.{FlatProgram}
-use Rattle.flat_meaning.specs.State.{State, Stands, Over}
-use Rattle.flat_meaning.specs.Calls.{function_in}
-use Rattle.flat_meaning.specs.Words.{IsOfWords}
-use Rattle.flat_meaning.specs.Meaning.{Context, Goes, Ends, body_of, context, weight_of}
-use Rattle.flat_routines.specs.Local.{counted, act, local_run, local_step}
-use Rattle.flat_routines.specs.Routine.{HasAt, Continues, Halts}
-use Rattle.flat_routines.specs.Effects.{worked, effects}
-use Rattle.flat_routines.proofs.Steps.{run_zero, run_suc}
-use Rattle.flat_routines.proofs.Straight.{run_straight}
-use Rattle.flat_routines.proofs.Lifted.{lifted}
+use Rattle.flat_code.specs.declared.instruction.RightOperand.TheVariants.{Register}
+use Rattle.flat_code.specs.declared.instruction.FlatInstruction.{FlatInstruction}
+use Rattle.flat_code.specs.declared.instruction.FlatInstruction.TheVariants.{Constant, Operate, End}
+use Rattle.flat_code.specs.declared.function.FlatProgram.{FlatProgram}
+use Rattle.flat_code.specs.State.{State, Stands, Over}
+use Rattle.flat_code.specs.Calls.{function_in}
+use Rattle.flat_code.specs.Words.{IsOfWords}
+use Rattle.flat_code.specs.Meaning.{Context, Goes, Ends, body_of, context, weight_of}
+use Rattle.flat_code.specs.Routines.Local.{counted, act, local_run, local_step}
+use Rattle.flat_code.specs.Routines.Routine.{HasAt, Continues, Halts}
+use Rattle.flat_code.specs.Routines.Effects.{worked, effects}
+use Rattle.flat_code.proofs.Routines.Steps.{run_zero, run_suc}
+use Rattle.flat_code.proofs.Routines.Straight.{run_straight}
+use Rattle.flat_code.proofs.Routines.Lifted.{lifted}
 use Rattle.metadata_plan.specs.Operators.{Position, Computes, EndsBy, AreOperators, binary_most}
 use Rattle.flat_operators.specs.Operators.{conversion_code, converted, divided_code, unary_code, binary_code}
 use Rattle.flat_operators.specs.Operators.{is_short, long_code, constant_code}

@@ -14,8 +14,8 @@ use lib_wrappers::allocating::laws::blocks_are_left_exactly;
 use metadata_plan::laws::operator_lists::operators_compute;
 use shadow_space::ShadowForm;
 
-/// Under each form of the shadow space the operators, the moves of pointers, loads and stores, checks, narrowing and the
-/// end of a block have lists that are what is asked of inline code.
+/// Under each form of the shadow space the operators, the moves of pointers, loads and stores, checks, narrowing and
+/// the end of a block have lists that are what is asked of inline code.
 pub fn lists_of_a_form_are_inline_code<S: ShadowForm>()
     ensures { (map : MapSizes) → AreMapped map
         → IsInlineCode map S.entry (S.IsGood map) (inline_lists S.entry_read S.entry_write map) }

@@ -2,7 +2,7 @@
 
 ghost use Rattle.std.specs.Prelude.{◌≡◌, ℕ, ◌+◌, ◌*◌, ◌<◌, ◌≤◌, List, Some, length, slice_get};
 ghost use Rattle.tac_ir.specs.declared.function.CodeFunction.{CodeFunction};
-ghost use Rattle.flat_meaning.specs.declared.function.FlatFunction.{FlatFunction};
+ghost use Rattle.flat_code.specs.declared.function.FlatFunction.{FlatFunction};
 ghost use Rattle.runtime_functions.specs.Runtime.{runtime_list, AreOfRuntime};
 ghost use Rattle.metadata_plan.specs.Entries.{AreAllClosed};
 ghost use Rattle.metadata_relation.specs.Contents.{AreKept};

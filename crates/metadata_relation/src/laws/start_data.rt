@@ -8,11 +8,11 @@ ghost use Rattle.obj_memory.specs.Sound.{IsSound};
 ghost use Rattle.tac_ir.specs.declared.function.StaticData.{StaticData};
 ghost use Rattle.tac_ir.specs.Meaning.{placed_data};
 ghost use Rattle.source_meaning.specs.State.{State as Source};
-ghost use Rattle.flat_meaning.specs.Memory.{Bytes, store};
-ghost use Rattle.flat_meaning.specs.State.{State};
-ghost use Rattle.flat_routines.specs.Metadata.{View};
-ghost use Rattle.flat_routines.specs.Objects.StandsFor.{global_lock};
-ghost use Rattle.flat_routines.specs.Objects.Start.{start_keys};
+ghost use Rattle.flat_code.specs.Memory.{Bytes, store};
+ghost use Rattle.flat_code.specs.State.{State};
+ghost use Rattle.flat_code.specs.Routines.Metadata.{View};
+ghost use Rattle.flat_code.specs.Routines.Objects.StandsFor.{global_lock};
+ghost use Rattle.flat_code.specs.Routines.Objects.Start.{start_keys};
 ghost use Rattle.shadow_space.specs.declared.start.StartEntry.{StartEntry};
 ghost use Rattle.shadow_space.specs.Start.{AreStartEntries};
 ghost use Rattle.flat_actions.specs.Actions.{IsFor, IsShown, views_of};
@@ -22,7 +22,7 @@ ghost use Rattle.c_tree.specs.Programs.{Program};
 ghost use Rattle.c_tree.specs.ValidProgram.{is_valid_program};
 ghost use Rattle.source_meaning.specs.Meaning.{initial_objects, setting_of};
 ghost use Rattle.tac_ir.specs.Meaning.{objects_before};
-ghost use Rattle.flat_routines.specs.Objects.StandsFor.{StandsFor};
+ghost use Rattle.flat_code.specs.Routines.Objects.StandsFor.{StandsFor};
 ghost use Rattle.flat_actions.specs.Actions.{AreSpacesGood};
 ghost use Rattle.metadata_relation.specs.Stages.{Compiled, expansion_of, map_of, views};
 ghost use Rattle.metadata_relation.specs.StartData.{AreSpacesInFile, HoldsStatics, entries_of_statics, statics_end};
@@ -30,8 +30,8 @@ ghost use Rattle.metadata_relation.specs.Steps.{IsCompiled};
 
 use shadow_space::ShadowForm;
 
-/// The entries of sound static objects that lie in their region are what a shadow space can begin with, and they are just
-/// those of the words that hold tags.
+/// The entries of sound static objects that lie in their region are what a shadow space can begin with, and they are
+/// just those of the words that hold tags.
 pub fn static_entries_are_those_of_tags()
     ensures start { (map : MapSizes) (functions : ℕ) (types : ℕ → ℕ) (ds : List StaticData)
         → ((f : ℕ) → types f < 2 ^ 63) → functions ≤ 2 ^ 32 → global_lock map < 2 ^ 64
@@ -53,8 +53,8 @@ pub fn static_bytes_are_the_objects()
         → AreStatics map functions (placed_data objects_begin ds 0) m }
 {}
 
-/// Once 1 is stored at the global lock word, which lies behind all that a file can hold, the memory of a file with static
-/// objects and their entries stands for the objects before the run.
+/// Once 1 is stored at the global lock word, which lies behind all that a file can hold, the memory of a file with
+/// static objects and their entries stands for the objects before the run.
 pub fn a_file_stands_for_the_source<S: ShadowForm>()
     ensures { (map : MapSizes) → AreMapped map → (functions : ℕ) (types : ℕ → ℕ) (es : List StartEntry)
         (objects : Objects) (m : Bytes) → AreStartEntries map es → AreStatics map functions objects m
@@ -67,7 +67,8 @@ pub fn a_file_stands_for_the_source<S: ShadowForm>()
     S::entries_are_local();
 }
 
-/// The static objects of the code of a valid program, as its initializers make them, are sound, and lie in their region.
+/// The static objects of the code of a valid program, as its initializers make them, are sound, and lie in their
+/// region.
 pub fn static_objects_are_sound_and_in_their_region()
     ensures sound { (p : Program) (budgets : BudgetSizes) → AreMapped (setting_of p budgets).sizes
         → is_valid_program p ≡ true → (ds : List StaticData)

@@ -1,5 +1,5 @@
-//! Laws of the steps of three-address code of any program and its expansion, each as the contract of a function that does
-//! nothing.
+//! Laws of the steps of three-address code of any program and its expansion, each as the contract of a function that
+//! does nothing.
 
 ghost use Rattle.std.specs.Prelude.{◌≡◌, ℕ, List};
 ghost use Rattle.behaviours.specs.Behaviour.{Follows};
@@ -7,20 +7,20 @@ ghost use Rattle.behaviours.specs.Steps.{run};
 ghost use Rattle.source_meaning.specs.State.{State};
 ghost use Rattle.tac_ir.specs.Meaning.{step, objects_before, setting_of_code, first_stage, tac_meaning};
 ghost use Rattle.tac_ir.specs.Stage.{Temps, Frame, Begins, Stands, Stuck};
-ghost use Rattle.flat_meaning.specs.Memory.{Bytes, AreBytes, store};
-ghost use Rattle.flat_meaning.specs.Meaning.{flat_meaning};
-ghost use Rattle.flat_routines.specs.Objects.StandsFor.{StandsFor, global_lock};
-ghost use Rattle.flat_routines.specs.Objects.Start.{start_keys};
+ghost use Rattle.flat_code.specs.Memory.{Bytes, AreBytes, store};
+ghost use Rattle.flat_code.specs.Meaning.{flat_meaning};
+ghost use Rattle.flat_code.specs.Routines.Objects.StandsFor.{StandsFor, global_lock};
+ghost use Rattle.flat_code.specs.Routines.Objects.Start.{start_keys};
 ghost use Rattle.flat_actions.specs.Actions.{AreSpacesGood};
-ghost use Rattle.flat_meaning.specs.State.{Stage as FlatStage};
+ghost use Rattle.flat_code.specs.State.{Stage as FlatStage};
 ghost use Rattle.metadata_relation.specs.Stages.{Compiled, map_of, views, expansion_of, Matches};
 ghost use Rattle.metadata_relation.specs.Steps.{IsCompiled, IsCovered, CoversMain, AreAllCovered, ComesToMatch};
 
 use shadow_space::ShadowForm;
 
-/// From matching stages at a node whose instruction is covered the expansion comes to where it matches the next stage of
-/// the program, which is not stuck: with as many turns at least, at most 21 times as much work, and, where the run ends, the
-/// same status and report.
+/// From matching stages at a node whose instruction is covered the expansion comes to where it matches the next stage
+/// of the program, which is not stuck: with as many turns at least, at most 21 times as much work, and, where the run
+/// ends, the same status and report.
 pub fn covered_instructions_are_followed<S: ShadowForm>()
     ensures { (c : Compiled) → IsCompiled c (S.IsGood (map_of c)) → (u n : ℕ) (temps : Temps) (ws : List Frame)
         (s : State) → IsCovered c u n
@@ -29,9 +29,9 @@ pub fn covered_instructions_are_followed<S: ShadowForm>()
         → ComesToMatch c (S.IsGood (map_of c)) (step c.setting (expansion_of c).code (Stands u n temps ws s)) x }
 {}
 
-/// Where a run begins the expansion stores the global lock word and the end of the object stack, which no file holds, and
-/// calls `main`, which takes nothing, or the run ends where its objects do not fit: it comes to where it matches the next
-/// stage.
+/// Where a run begins the expansion stores the global lock word and the end of the object stack, which no file holds,
+/// and calls `main`, which takes nothing, or the run ends where its objects do not fit: it comes to where it matches
+/// the next stage.
 pub fn the_first_call_is_followed<S: ShadowForm>()
     ensures { (c : Compiled) → IsCompiled c (S.IsGood (map_of c)) → c.entry ≡ S.entry → CoversMain c → (s : State)
         (x : FlatStage) → Matches c (S.IsGood (map_of c)) (Begins s) x

@@ -6,9 +6,9 @@ ghost use Rattle.source_meaning.specs.Blocks.{Block, leave_block};
 ghost use Rattle.source_meaning.specs.Keeping.{LivesOn};
 ghost use Rattle.source_meaning.specs.Good.{EndsMade};
 ghost use Rattle.tac_ir.specs.Stage.{Frame};
-ghost use Rattle.flat_meaning.specs.Memory.{Bytes};
-ghost use Rattle.flat_meaning.specs.State.{Frame as FlatFrame};
-ghost use Rattle.flat_routines.specs.Objects.StandsFor.{Views, Keys, StandsFor};
+ghost use Rattle.flat_code.specs.Memory.{Bytes};
+ghost use Rattle.flat_code.specs.State.{Frame as FlatFrame};
+ghost use Rattle.flat_code.specs.Routines.Objects.StandsFor.{Views, Keys, StandsFor};
 ghost use Rattle.metadata_relation.specs.Holding.{GoesOn, world_of};
 ghost use Rattle.metadata_relation.specs.Waiting.{AreBetween, Layout, Level, Wait};
 

@@ -140,8 +140,8 @@ fn assembled(
 /// Lowers a valid program that has at most 4096 functions, where its static objects take at most 4 MiB and their
 /// initializers are constant. The text of the program says which instructions its code has, how many they are, and how
 /// many checks are to come. The room of each function has areas for the structures of its temporaries. The bodies of
-/// counted loops are closed, assign their variables nowhere, are just the nodes of their text, and no checks are added to
-/// them yet. An error comes where there is no memory for its code.
+/// counted loops are closed, assign their variables nowhere, are just the nodes of their text, and no checks are added
+/// to them yet. An error comes where there is no memory for its code.
 pub fn lower(alloc: Global, program: &Program) -> Result<Tac, AllocError>
     requires valid { is_valid_program (program_of program.now) ≡ true }
     requires constant { first_not_constant (program_of program.now) ≡ None }

@@ -8,7 +8,7 @@ ghost use Rattle.reg_plan.specs.Saves.Saves.{ends_with, with_last, items_of, is_
 ghost use Rattle.reg_plan.specs.Saves.Saves.{is_register, PutsWhere, Counts};
 
 use crate::{FunctionPlan, LiveInterval, Place};
-use flat_meaning::{FlatFunction, FlatInstruction};
+use flat_code::{FlatFunction, FlatInstruction};
 use std::alloc::AllocError;
 
 // Whether a row ends with a number.

@@ -1,14 +1,14 @@
 //! Tables of what the calls of a function save.
 
 ghost use Rattle.std.specs.Prelude.{◌≡◌, ◌<◌, ℕ, [], IfOk, length, slice_get, true, if◌then◌else◌};
-ghost use Rattle.flat_meaning.specs.Calls.{function_in};
-ghost use Rattle.flat_meaning.specs.Meaning.{body_of};
+ghost use Rattle.flat_code.specs.Calls.{function_in};
+ghost use Rattle.flat_code.specs.Meaning.{body_of};
 ghost use Rattle.reg_plan.specs.Saves.Saves.{is_call, is_call_at, items_of, calls_before, saved_below, row_at};
 ghost use Rattle.reg_plan.specs.Saves.Saves.{HasSaves, Counts};
 
 use crate::FunctionPlan;
 use crate::call_saves::rows::put_register;
-use flat_meaning::{FlatFunction, FlatInstruction, FlatProgram};
+use flat_code::{FlatFunction, FlatInstruction, FlatProgram};
 use std::alloc::{AllocError, Global};
 
 /// What each call of a function saves under its plan: the virtual registers that are kept in registers of the machine

@@ -15,7 +15,7 @@ use Rattle.sb_base.specs.Endings.{code_of}
 use Rattle.machine_laws.specs.Blocks.Tails.{what_of, text_before, text_bytes, line_text, tail_block, tails_of}
 use Rattle.machine_laws.specs.Calls.Calls.{Keeping, save_one, restore_one}
 use Rattle.machine_laws.specs.Layout.Lists.{label_for, tail_of}
-use Rattle.flat_meaning.specs.declared.instruction.FlatInstruction.TheVariants as flat
+use Rattle.flat_code.specs.declared.instruction.FlatInstruction.TheVariants as flat
 use Rattle.rv_asm.specs.declared.item.Item.{Item}
 use Rattle.rv_asm.specs.declared.item.Item.TheVariants as item
 

@@ -4,7 +4,7 @@ use Rattle.std.proofs.Common.{◌≤◌, length, drop, Option, Some, None, refl,
 use Rattle.std.specs.Prelude.{slice_get, nat_lt}
 use Rattle.std.specs.List.{flat_map}
 use Rattle.std.proofs.lemmas.Grind.{flat_map-append}
-use Rattle.flat_meaning.specs.declared.function.FlatFunction.{FlatFunction}
+use Rattle.flat_code.specs.declared.function.FlatFunction.{FlatFunction}
 use Rattle.reg_plan.specs.declared.plan.Place.{Place}
 use Rattle.reg_plan.specs.declared.plan.Place.TheVariants.{Home, Register}
 use Rattle.reg_plan.specs.declared.plan.FunctionPlan.{FunctionPlan}

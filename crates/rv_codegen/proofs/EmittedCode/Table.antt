@@ -1,6 +1,6 @@
 -- Where an entry of the jump table stands, found by how many stand before the start.
 use Rattle.std.proofs.Common.{◌≡◌, ℕ, ◌+◌, ◌*◌, ◌<◌, ◌≤◌, sym, arith}
-use Rattle.flat_meaning.specs.declared.function.FlatProgram.{FlatProgram}
+use Rattle.flat_code.specs.declared.function.FlatProgram.{FlatProgram}
 use Rattle.machine_laws.specs.Calls.Table.{source_count, row_address}
 use Rattle.machine_laws.proofs.Calls.Table.{first_row, last_row, tails_length}
 

@@ -17,10 +17,10 @@ use Rattle.elf_image.proofs.Written.{written_is_image, written_is_content}
 use Rattle.rv_sim.specs.Behaviour.{behaviour}
 use Rattle.rv_sim.specs.Start.{start_of}
 use Rattle.machine_laws.specs.View.Segments.{Hold}
-use Rattle.flat_meaning.specs.declared.function.FlatProgram.{FlatProgram}
-use Rattle.flat_meaning.specs.Memory.{Bytes, AreBytes}
-use Rattle.flat_meaning.specs.State.{Stuck}
-use Rattle.flat_meaning.specs.Meaning.{step, started, flat_meaning}
+use Rattle.flat_code.specs.declared.function.FlatProgram.{FlatProgram}
+use Rattle.flat_code.specs.Memory.{Bytes, AreBytes}
+use Rattle.flat_code.specs.State.{Stuck}
+use Rattle.flat_code.specs.Meaning.{step, started, flat_meaning}
 use Rattle.reg_plan.specs.declared.plan.FunctionPlan.{FunctionPlan}
 use Rattle.reg_plan.specs.Tests.{AreAccepted}
 use Rattle.machine_laws.specs.Following.Code.{IsEncodable}

@@ -7,7 +7,7 @@ use Rattle.addr_map.specs.declared.region.Region.TheVariants.{Shadow, Locks, Fre
 use Rattle.addr_map.specs.declared.region.Region.TheVariants.{StructureValues, Cells, Arguments, Calls, RuntimeCalls}
 use Rattle.rv_isa.specs.Table.{word_of}
 use Rattle.elf_image.specs.Writing.{IsInOrder}
-use Rattle.flat_meaning.specs.declared.function.FlatProgram.{FlatProgram}
+use Rattle.flat_code.specs.declared.function.FlatProgram.{FlatProgram}
 use Rattle.reg_plan.specs.declared.plan.FunctionPlan.{FunctionPlan}
 use Rattle.machine_laws.specs.Following.Matching.{object_bytes, space_bytes}
 use Rattle.machine_laws.specs.Following.Start.{start_block}

@@ -3,7 +3,7 @@
 
 ghost use Rattle.std.specs.Prelude.{◌≡◌, ◌+◌, ◌*◌, ◌%◌, ◌<◌, ◌≤◌, ◌^◌, ◌++◌, ◌∷◌, []};
 ghost use Rattle.std.specs.Prelude.{if◌then◌else◌, OnOk, length};
-ghost use Rattle.flat_meaning.specs.Calls.{record_bytes};
+ghost use Rattle.flat_code.specs.Calls.{record_bytes};
 ghost use Rattle.reg_plan.specs.Effects.{is_among, many};
 ghost use Rattle.reg_plan.specs.Order.{IsLookup};
 ghost use Rattle.reg_plan.specs.Saves.Saves.{saved_below};
@@ -23,7 +23,7 @@ use crate::emission::constants::{addi, put_constant, put_load_at, put_store_at};
 use crate::emission::values::{
     frame_register, left_scratch, put_fetch, put_keep, put_restore, put_save, right_scratch, used,
 };
-use flat_meaning::FlatFunction;
+use flat_code::FlatFunction;
 use reg_plan::{FunctionPlan, LiveLookup, record_bytes};
 use rv_isa::{Imm12, Instr, Reg, RegOp};
 use std::alloc::AllocError;

@@ -2,12 +2,12 @@
 
 ghost use Rattle.std.specs.Prelude.{◌≡◌};
 ghost use Rattle.words.specs.TwosComplement.{negated};
-ghost use Rattle.flat_meaning.specs.declared.instruction.RightOperand.{RightOperand};
+ghost use Rattle.flat_code.specs.declared.instruction.RightOperand.{RightOperand};
 ghost use Rattle.machine_laws.specs.Blocks.Immediates.{is_immediate, with_immediate, with_shift, with_immediate32};
 ghost use Rattle.machine_laws.specs.Blocks.Immediates.{with_shift32};
 ghost use Rattle.machine_laws.specs.Blocks.Immediates.{immediate, immediate32, immediate_of, immediate32_of};
 
-use flat_meaning::RightOperand;
+use flat_code::RightOperand;
 use rv_isa::{
     Imm12, ImmOp, Instr, Reg, RegOp, RegOp32, ShiftAmount, ShiftAmount32, ShiftOp, ShiftOp32,
 };

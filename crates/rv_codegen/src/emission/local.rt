@@ -4,7 +4,7 @@ ghost use Rattle.std.specs.Prelude.{◌≡◌, ◌+◌, ◌-◌, ◌<◌, ◌≤
 ghost use Rattle.std.specs.Prelude.{OnOk};
 ghost use Rattle.rv_isa.specs.declared.instruction.ImmOp.TheVariants.{Addi};
 ghost use Rattle.rv_isa.specs.declared.instruction.Instr.TheVariants.{OpImm};
-ghost use Rattle.flat_meaning.specs.declared.instruction.FlatInstruction.TheVariants as flat;
+ghost use Rattle.flat_code.specs.declared.instruction.FlatInstruction.TheVariants as flat;
 ghost use Rattle.machine_laws.specs.Blocks.Blocks.{move_block, charged_block, asks, received_block, sent_block};
 ghost use Rattle.machine_laws.specs.Blocks.Blocks.{exit_block, local_block};
 ghost use Rattle.machine_laws.specs.Blocks.Blocks.{fetch, keep, operator_block, used};
@@ -17,7 +17,7 @@ use crate::emission::values::{
     frame_register, is_same_place, left_scratch, put_fetch, put_keep, put_operands, right_scratch,
     used, used_right,
 };
-use flat_meaning::{FlatFunction, RightOperand};
+use flat_code::{FlatFunction, RightOperand};
 use reg_plan::FunctionPlan;
 use rv_isa::{Imm12, Instr, LoadOp, Reg, RegOp, RegOp32, ShiftAmount, ShiftOp, StoreOp};
 use std::alloc::AllocError;

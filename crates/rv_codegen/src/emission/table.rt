@@ -9,7 +9,7 @@ ghost use Rattle.machine_laws.specs.Following.Start.{start_block};
 use crate::emission::calls::{argument_words, callee_scratch, jump_to};
 use crate::emission::constants::{put_wide, upper};
 use addr_map::{AddrMap, Region};
-use flat_meaning::FlatProgram;
+use flat_code::FlatProgram;
 use rv_isa::{Imm12, Instr, Reg};
 use std::alloc::AllocError;
 

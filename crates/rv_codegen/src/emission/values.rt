@@ -1,7 +1,7 @@
 //! Where the values of a function are kept: operands come from there, results go there.
 
 ghost use Rattle.std.specs.Prelude.{◌≡◌, ◌<◌, ◌^◌, ◌++◌, ◌==◌, if◌then◌else◌, [], slice_get, OnOk};
-ghost use Rattle.flat_meaning.specs.declared.instruction.RightOperand.{RightOperand};
+ghost use Rattle.flat_code.specs.declared.instruction.RightOperand.{RightOperand};
 ghost use Rattle.machine_laws.specs.Blocks.Places.{home, location, frame_register, saved_register, left_scratch};
 ghost use Rattle.machine_laws.specs.Blocks.Places.{right_scratch};
 ghost use Rattle.machine_laws.specs.Blocks.Blocks.{constant, used, fetch, keep, used_right, fetch_right, operands};
@@ -10,7 +10,7 @@ ghost use Rattle.machine_laws.specs.Calls.Calls.{save_one, restore_one};
 ghost use Rattle.rv_codegen.specs.EmittedCode.Kept.{IsSmall};
 
 use crate::emission::constants::{put_constant, put_load_at, put_store_at};
-use flat_meaning::{FlatFunction, RightOperand};
+use flat_code::{FlatFunction, RightOperand};
 use machine_laws::Location;
 use reg_plan::{FunctionPlan, Place};
 use rv_isa::{Instr, Reg};

@@ -13,7 +13,7 @@ use addr_map::laws::{objects_stand_in_object_space, regions_stand_in_order, size
 use addr_map::{AddrMap, Region};
 use elf_image::laws::segments_in_order_fit;
 use elf_image::{Image, NewImage, NewSegment};
-use flat_meaning::FlatProgram;
+use flat_code::FlatProgram;
 use reg_plan::FunctionPlan;
 use std::alloc::{AllocError, Global};
 

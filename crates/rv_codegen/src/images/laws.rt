@@ -3,8 +3,8 @@
 ghost use Rattle.std.specs.Prelude.{◌<◌, ◌≤◌, ℕ, List, length};
 ghost use Rattle.std.specs.List.{All};
 ghost use Rattle.addr_map.specs.Places.{MapSizes, AreMapped};
-ghost use Rattle.flat_meaning.specs.declared.function.FlatProgram.{FlatProgram};
-ghost use Rattle.flat_meaning.specs.Memory.{AreBytes};
+ghost use Rattle.flat_code.specs.declared.function.FlatProgram.{FlatProgram};
+ghost use Rattle.flat_code.specs.Memory.{AreBytes};
 ghost use Rattle.reg_plan.specs.declared.plan.FunctionPlan.{FunctionPlan};
 ghost use Rattle.machine_laws.specs.View.Segments.{Hold};
 ghost use Rattle.machine_laws.specs.Following.Matching.{object_bytes, space_bytes};

@@ -7,30 +7,31 @@ use Rattle.addr_map.specs.Places.{MapSizes, AreMapped, spaces_begin, region_size
 use Rattle.rv_isa.specs.declared.instruction.BranchOp.TheVariants.{Beq, Bgeu}
 use Rattle.rv_isa.specs.declared.instruction.RegOp.TheVariants.{Add}
 use Rattle.rv_isa.specs.Results.{reg_result, branch_taken}
-use Rattle.flat_meaning.specs.declared.instruction.RightOperand.TheVariants.{Register, Number}
-use Rattle.flat_meaning.specs.declared.instruction.FlatInstruction.{FlatInstruction}
-use Rattle.flat_meaning.specs.declared.instruction.FlatInstruction.TheVariants.{Constant, Move, Operate, JumpBack}
-use Rattle.flat_meaning.specs.Memory.{Bytes, put}
-use Rattle.flat_meaning.specs.State.{Values, State}
-use Rattle.flat_meaning.specs.Words.{IsOfWords}
-use Rattle.flat_meaning.specs.Meaning.{Context}
-use Rattle.flat_meaning.proofs.Stored.{keeps_both}
-use Rattle.flat_routines.specs.Registers.{AreBelow}
-use Rattle.flat_routines.specs.Routine.{HasAt, unless_code, until_code}
-use Rattle.flat_routines.specs.Effects.{worked, effects}
-use Rattle.flat_routines.specs.Renaming.{through}
-use Rattle.flat_routines.specs.Metadata.{Metadata, no_metadata, IsObjectWord, KeepsButShadow, ShowsNothing}
-use Rattle.flat_routines.proofs.Steps.{has_front, has_back, has_self}
-use Rattle.flat_routines.proofs.Distinct.{AreRegisters, register_of, registers_rename, others_stay}
-use Rattle.flat_routines.proofs.Regions.{IsLaidOut, laid_out}
-use Rattle.flat_routines.proofs.Words.{store_four, same_metadata, stored_at}
-use Rattle.flat_routines.proofs.Wrapped.{routine}
+use Rattle.flat_code.specs.declared.instruction.RightOperand.TheVariants.{Register, Number}
+use Rattle.flat_code.specs.declared.instruction.FlatInstruction.{FlatInstruction}
+use Rattle.flat_code.specs.declared.instruction.FlatInstruction.TheVariants.{Constant, Move, Operate, JumpBack}
+use Rattle.flat_code.specs.Memory.{Bytes, put}
+use Rattle.flat_code.specs.State.{Values, State}
+use Rattle.flat_code.specs.Words.{IsOfWords}
+use Rattle.flat_code.specs.Meaning.{Context}
+use Rattle.flat_code.proofs.Stored.{keeps_both}
+use Rattle.flat_code.specs.Routines.Registers.{AreBelow}
+use Rattle.flat_code.specs.Routines.Routine.{HasAt, unless_code, until_code}
+use Rattle.flat_code.specs.Routines.Effects.{worked, effects}
+use Rattle.flat_code.specs.Routines.Renaming.{through}
+use Rattle.flat_code.specs.Routines.Metadata.{Metadata, no_metadata, IsObjectWord, KeepsButShadow, ShowsNothing}
+use Rattle.flat_code.proofs.Routines.Steps.{has_front, has_back, has_self}
+use Rattle.flat_code.proofs.Routines.Distinct.{AreRegisters, register_of, registers_rename, others_stay}
+use Rattle.flat_code.proofs.Routines.Regions.{IsLaidOut, laid_out}
+use Rattle.flat_code.proofs.Routines.Words.{store_four, same_metadata, stored_at}
+use Rattle.flat_code.proofs.Routines.Wrapped.{routine}
 use Rattle.shadow_space.specs.Form.{IsWordRange, HasCleared, IsClearRoutine}
 use Rattle.shadow_space.specs.Direct.{store_entry, same_register}
 use Rattle.shadow_space.proofs.Entries.{context_of, agrees_shows, agrees_memory}
-use Rattle.flat_routines.proofs.Spaces.Quiet.{in_spaces, shows_itself}
-use Rattle.flat_routines.proofs.Spaces.Rules.{Quietly, ReachesQuietly, QuietTurn, quiet_line, quiet_end, quiet_branch}
-use Rattle.flat_routines.proofs.Spaces.Rules.{quiet_weaken, quiet_next, quiet_loop}
+use Rattle.flat_code.proofs.Routines.Spaces.Quiet.{in_spaces, shows_itself}
+use Rattle.flat_code.proofs.Routines.Spaces.Rules.{Quietly, ReachesQuietly, QuietTurn, quiet_line, quiet_end}
+use Rattle.flat_code.proofs.Routines.Spaces.Rules.{quiet_branch}
+use Rattle.flat_code.proofs.Routines.Spaces.Rules.{quiet_weaken, quiet_next, quiet_loop}
 use Rattle.shadow_space.specs.TwoLevel.Tables.{page_of, entry_offset, table_of, two_level_entry}
 use Rattle.shadow_space.specs.TwoLevel.Tables.{AreTablesGood}
 use Rattle.shadow_space.specs.TwoLevel.Code.{look_up, clear_word, two_level_clear}

@@ -4,10 +4,11 @@ use Rattle.std.proofs.lemmas.Bool.{cases_lt, cases_eq, eq-eqb, ne_eqb, cond-true
 use Rattle.addr_map.specs.declared.region.Region.TheVariants.{Heap, Shadow, Cells}
 use Rattle.addr_map.specs.Places.{MapSizes, AreMapped, objects_begin, spaces_begin, region_size, region_start}
 use Rattle.addr_map.specs.Places.{region_end}
-use Rattle.flat_meaning.specs.Memory.{Bytes, Keeps}
-use Rattle.flat_meaning.proofs.Stored.{load_kept, kept_beside, keeps_within}
-use Rattle.flat_routines.specs.Metadata.{Metadata, no_metadata, metadata_at, IsObjectWord, KeepsButShadow, KeepsShadow}
-use Rattle.flat_routines.proofs.Words.{store_four, IsOfFourWords, four_read, four_beside, metadata_kept}
+use Rattle.flat_code.specs.Memory.{Bytes, Keeps}
+use Rattle.flat_code.proofs.Stored.{load_kept, kept_beside, keeps_within}
+use Rattle.flat_code.specs.Routines.Metadata.{Metadata, no_metadata, metadata_at, IsObjectWord, KeepsButShadow}
+use Rattle.flat_code.specs.Routines.Metadata.{KeepsShadow}
+use Rattle.flat_code.proofs.Routines.Words.{store_four, IsOfFourWords, four_read, four_beside, metadata_kept}
 use Rattle.shadow_space.specs.TwoLevel.Tables.{pages, page_of, entry_offset, taken_cell, page_cell, first_table}
 use Rattle.shadow_space.specs.TwoLevel.Tables.{table_of}
 use Rattle.shadow_space.specs.TwoLevel.Tables.{in_table, two_level_entry, AreTablesGood}

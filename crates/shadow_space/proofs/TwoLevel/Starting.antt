@@ -4,10 +4,10 @@ use Rattle.std.proofs.Common.{[], ◌∷◌, drop, get_or, length, replicate, re
 use Rattle.std.proofs.lemmas.Bool.{cases_lt}
 use Rattle.std.proofs.lemmas.List.{length-replicate}
 use Rattle.addr_map.specs.Places.{MapSizes, AreMapped, spaces_begin, region_size, region_start}
-use Rattle.flat_meaning.specs.Memory.{Bytes, store}
-use Rattle.flat_meaning.proofs.Stored.{load_stored, load_beside, store_beside, load_kept}
-use Rattle.flat_routines.specs.Metadata.{no_metadata, IsObjectWord, KeepsShadow}
-use Rattle.flat_routines.proofs.Words.{store_four, zero_loaded}
+use Rattle.flat_code.specs.Memory.{Bytes, store}
+use Rattle.flat_code.proofs.Stored.{load_stored, load_beside, store_beside, load_kept}
+use Rattle.flat_code.specs.Routines.Metadata.{no_metadata, IsObjectWord, KeepsShadow}
+use Rattle.flat_code.proofs.Routines.Words.{store_four, zero_loaded}
 use Rattle.shadow_space.specs.declared.start.StartEntry.{StartEntry}
 use Rattle.shadow_space.specs.Start.{metadata_of, with_word, IsGlobalWord, IsStartEntry, AreStartEntries, StartsShadow}
 use Rattle.shadow_space.specs.Start.{begun}

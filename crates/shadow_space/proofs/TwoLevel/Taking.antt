@@ -4,11 +4,11 @@ use Rattle.std.proofs.Common.{sym, ap, ◌∙◌, subst, arith}
 use Rattle.std.proofs.lemmas.Bool.{cases_lt, cases_eq}
 use Rattle.addr_map.specs.declared.region.Region.TheVariants.{Shadow}
 use Rattle.addr_map.specs.Places.{MapSizes, spaces_begin, region_size}
-use Rattle.flat_meaning.specs.Memory.{Bytes, load, store}
-use Rattle.flat_meaning.proofs.Stored.{load_stored, load_beside, store_beside, keeps_within, keeps_both}
-use Rattle.flat_routines.specs.Metadata.{no_metadata, metadata_at, IsObjectWord, KeepsButShadow}
-use Rattle.flat_routines.proofs.Words.{metadata_kept}
-use Rattle.flat_routines.proofs.Spaces.Few.{at_most_of}
+use Rattle.flat_code.specs.Memory.{Bytes, load, store}
+use Rattle.flat_code.proofs.Stored.{load_stored, load_beside, store_beside, keeps_within, keeps_both}
+use Rattle.flat_code.specs.Routines.Metadata.{no_metadata, metadata_at, IsObjectWord, KeepsButShadow}
+use Rattle.flat_code.proofs.Routines.Words.{metadata_kept}
+use Rattle.flat_code.proofs.Routines.Spaces.Few.{at_most_of}
 use Rattle.shadow_space.specs.TwoLevel.Tables.{pages, page_of, entry_offset, taken_cell, page_cell, first_table}
 use Rattle.shadow_space.specs.TwoLevel.Tables.{table_of}
 use Rattle.shadow_space.specs.TwoLevel.Tables.{in_table, two_level_entry, AreTablesGood}

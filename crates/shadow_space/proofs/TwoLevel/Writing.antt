@@ -8,33 +8,33 @@ use Rattle.addr_map.specs.Places.{MapSizes, AreMapped, spaces_begin, region_size
 use Rattle.rv_isa.specs.declared.instruction.BranchOp.TheVariants.{Beq, Bne}
 use Rattle.rv_isa.specs.declared.instruction.RegOp.TheVariants.{Add}
 use Rattle.rv_isa.specs.Results.{reg_result, extended, branch_taken}
-use Rattle.flat_meaning.specs.declared.instruction.RightOperand.TheVariants.{Register, Number}
-use Rattle.flat_meaning.specs.declared.instruction.FlatInstruction.{FlatInstruction}
-use Rattle.flat_meaning.specs.declared.instruction.FlatInstruction.TheVariants.{Operate, Branch}
-use Rattle.flat_meaning.specs.Memory.{Bytes, put, load, store}
-use Rattle.flat_meaning.specs.State.{Values, State}
-use Rattle.flat_meaning.specs.Words.{IsOfWords}
-use Rattle.flat_meaning.specs.Meaning.{Context}
-use Rattle.flat_meaning.proofs.Stored.{keeps_both}
-use Rattle.flat_routines.specs.declared.registers.Entry.{Entry}
-use Rattle.flat_routines.specs.Registers.{AreBelow}
-use Rattle.flat_routines.specs.Routine.{HasAt}
-use Rattle.flat_routines.specs.Effects.{worked, effects}
-use Rattle.flat_routines.specs.Renaming.{through}
-use Rattle.flat_routines.specs.Metadata.{Metadata, no_metadata, metadata_in, entry_registers, IsObjectWord}
-use Rattle.flat_routines.specs.Metadata.{KeepsButShadow, ShowsNothing}
-use Rattle.flat_routines.proofs.Steps.{has_front, has_back, has_self}
-use Rattle.flat_routines.proofs.Distinct.{AreRegisters, register_of, registers_rename, others_stay}
-use Rattle.flat_routines.proofs.Regions.{IsLaidOut, laid_out}
-use Rattle.flat_routines.proofs.Words.{store_four, IsOfFourWords, same_metadata, stored_at}
-use Rattle.flat_routines.proofs.Wrapped.{routine}
+use Rattle.flat_code.specs.declared.instruction.RightOperand.TheVariants.{Register, Number}
+use Rattle.flat_code.specs.declared.instruction.FlatInstruction.{FlatInstruction}
+use Rattle.flat_code.specs.declared.instruction.FlatInstruction.TheVariants.{Operate, Branch}
+use Rattle.flat_code.specs.Memory.{Bytes, put, load, store}
+use Rattle.flat_code.specs.State.{Values, State}
+use Rattle.flat_code.specs.Words.{IsOfWords}
+use Rattle.flat_code.specs.Meaning.{Context}
+use Rattle.flat_code.proofs.Stored.{keeps_both}
+use Rattle.flat_code.specs.declared.registers.Entry.{Entry}
+use Rattle.flat_code.specs.Routines.Registers.{AreBelow}
+use Rattle.flat_code.specs.Routines.Routine.{HasAt}
+use Rattle.flat_code.specs.Routines.Effects.{worked, effects}
+use Rattle.flat_code.specs.Routines.Renaming.{through}
+use Rattle.flat_code.specs.Routines.Metadata.{Metadata, no_metadata, metadata_in, entry_registers, IsObjectWord}
+use Rattle.flat_code.specs.Routines.Metadata.{KeepsButShadow, ShowsNothing}
+use Rattle.flat_code.proofs.Routines.Steps.{has_front, has_back, has_self}
+use Rattle.flat_code.proofs.Routines.Distinct.{AreRegisters, register_of, registers_rename, others_stay}
+use Rattle.flat_code.proofs.Routines.Regions.{IsLaidOut, laid_out}
+use Rattle.flat_code.proofs.Routines.Words.{store_four, IsOfFourWords, same_metadata, stored_at}
+use Rattle.flat_code.proofs.Routines.Wrapped.{routine}
 use Rattle.shadow_space.specs.Form.{HasWritten, IsWriteRoutine}
 use Rattle.shadow_space.specs.Direct.{store_entry}
 use Rattle.shadow_space.proofs.Entries.{context_of, agrees_shows, agrees_memory}
-use Rattle.flat_routines.proofs.Spaces.Quiet.{in_spaces, shows_itself}
-use Rattle.flat_routines.proofs.Spaces.Rules.{Quietly, ReachesQuietly, quiet_line, quiet_end, quiet_branch}
-use Rattle.flat_routines.proofs.Spaces.Rules.{quiet_weaken}
-use Rattle.flat_routines.proofs.Spaces.Rules.{quiet_arrived}
+use Rattle.flat_code.proofs.Routines.Spaces.Quiet.{in_spaces, shows_itself}
+use Rattle.flat_code.proofs.Routines.Spaces.Rules.{Quietly, ReachesQuietly, quiet_line, quiet_end, quiet_branch}
+use Rattle.flat_code.proofs.Routines.Spaces.Rules.{quiet_weaken}
+use Rattle.flat_code.proofs.Routines.Spaces.Rules.{quiet_arrived}
 use Rattle.shadow_space.specs.TwoLevel.Tables.{pages, page_of, entry_offset, taken_cell, page_cell, first_table}
 use Rattle.shadow_space.specs.TwoLevel.Tables.{table_of}
 use Rattle.shadow_space.specs.TwoLevel.Tables.{two_level_entry, AreTablesGood}

@@ -2,9 +2,9 @@
 use Rattle.std.proofs.Common.{◌≡◌, ℕ, ◌+◌, ◌<◌, ◌≤◌, ◌∙◌, arith}
 use Rattle.addr_map.specs.declared.region.Region.TheVariants.{Shadow}
 use Rattle.addr_map.specs.Places.{MapSizes, spaces_begin, region_size}
-use Rattle.flat_meaning.specs.Memory.{Bytes, load}
-use Rattle.flat_meaning.proofs.Stored.{load_kept}
-use Rattle.flat_routines.specs.Metadata.{no_metadata, IsObjectWord}
+use Rattle.flat_code.specs.Memory.{Bytes, load}
+use Rattle.flat_code.proofs.Stored.{load_kept}
+use Rattle.flat_code.specs.Routines.Metadata.{no_metadata, IsObjectWord}
 use Rattle.shadow_space.specs.TwoLevel.Tables.{pages, page_of, entry_offset, taken_cell, page_cell, table_of}
 use Rattle.shadow_space.specs.TwoLevel.Tables.{two_level_entry, AreTablesGood}
 use Rattle.shadow_space.proofs.TwoLevel.Levels.{AreLevelsLaidOut, no_table, page_below}

@@ -5,12 +5,12 @@ use Rattle.rv_isa.specs.declared.instruction.RegOp.TheVariants.{Add, Sll, Srl}
 use Rattle.rv_isa.specs.declared.instruction.LoadOp.TheVariants.{Ld}
 use Rattle.rv_isa.specs.declared.instruction.StoreOp.TheVariants.{Sd}
 use Rattle.addr_map.specs.Places.{MapSizes, objects_begin, spaces_begin}
-use Rattle.flat_meaning.specs.declared.instruction.RightOperand.TheVariants.{Register, Number}
-use Rattle.flat_meaning.specs.declared.instruction.FlatInstruction.{FlatInstruction}
-use Rattle.flat_meaning.specs.declared.instruction.FlatInstruction.TheVariants.{Constant, Move, Operate, Load, Store}
-use Rattle.flat_meaning.specs.declared.instruction.FlatInstruction.TheVariants.{Branch}
-use Rattle.flat_routines.specs.declared.registers.Entry.{Entry}
-use Rattle.flat_routines.specs.Routine.{unless_code, until_code}
+use Rattle.flat_code.specs.declared.instruction.RightOperand.TheVariants.{Register, Number}
+use Rattle.flat_code.specs.declared.instruction.FlatInstruction.{FlatInstruction}
+use Rattle.flat_code.specs.declared.instruction.FlatInstruction.TheVariants.{Constant, Move, Operate, Load, Store}
+use Rattle.flat_code.specs.declared.instruction.FlatInstruction.TheVariants.{Branch}
+use Rattle.flat_code.specs.declared.registers.Entry.{Entry}
+use Rattle.flat_code.specs.Routines.Routine.{unless_code, until_code}
 use Rattle.shadow_space.specs.Direct.{load_entry, store_entry, same_register}
 use Rattle.shadow_space.specs.TwoLevel.Tables.{first_table}
 

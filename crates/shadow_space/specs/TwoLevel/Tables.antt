@@ -1,8 +1,8 @@
 -- The shadow space in two levels: a word for each page of object space, and tables of entries from a reserve.
 use Rattle.std.specs.Prelude.{◌≡◌, ◌≢◌, ℕ, ◌+◌, ◌-◌, ◌*◌, ◌/◌, ◌%◌, ◌<◌, ◌≤◌, nat_eq, if◌then◌else◌}
 use Rattle.addr_map.specs.Places.{MapSizes, objects_begin, spaces_begin, object_space}
-use Rattle.flat_meaning.specs.Memory.{Bytes, load}
-use Rattle.flat_routines.specs.Metadata.{Metadata, no_metadata, metadata_at}
+use Rattle.flat_code.specs.Memory.{Bytes, load}
+use Rattle.flat_code.specs.Routines.Metadata.{Metadata, no_metadata, metadata_at}
 
 -- ---- where they stand
 

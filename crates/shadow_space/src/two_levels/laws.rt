@@ -3,8 +3,8 @@
 ghost use Rattle.std.specs.Prelude.{◌≡◌, ◌+◌, ◌<◌, ◌≤◌, ℕ};
 ghost use Rattle.addr_map.specs.declared.region.Region.TheVariants.{Shadow};
 ghost use Rattle.addr_map.specs.Places.{MapSizes, AreMapped, spaces_begin, region_size};
-ghost use Rattle.flat_meaning.specs.Memory.{Bytes};
-ghost use Rattle.flat_routines.specs.Metadata.{no_metadata, IsObjectWord};
+ghost use Rattle.flat_code.specs.Memory.{Bytes};
+ghost use Rattle.flat_code.specs.Routines.Metadata.{no_metadata, IsObjectWord};
 ghost use Rattle.shadow_space.specs.TwoLevel.Tables.{two_level_entry, AreTablesGood};
 
 /// Where the shadow space is zero, no table is taken, what holds whenever a routine is called does, and no word has

@@ -12,8 +12,7 @@ use crate::form::ShadowForm;
 use crate::start::{OBJECTS, SHADOW, StartEntry};
 use crate::two_levels::start::start_bytes;
 use addr_map::AddrMap;
-use flat_meaning::{FlatInstruction, RightOperand};
-use flat_routines::Entry;
+use flat_code::{Entry, FlatInstruction, RightOperand};
 use rv_isa::{BranchOp, LoadOp, RegOp, StoreOp};
 use std::alloc::{AllocError, Global};
 

@@ -118,6 +118,7 @@ module _ (env : Env) (ps : Pointers) where
     node_finds k line (decay p) v s t h = finds_pointer (place_finds p v s t h)
     node_finds k line (address p) v s t h = finds_counted (finds_pointer (place_finds p v _ t h))
     node_finds k line (parenthesized e) v s t h = finds_counted (address_finds e v _ t h)
+    node_finds k line (deref_function e) v s t h = finds_counted (finds_pointer (address_finds e v _ t h))
     node_finds k line (address_function e) v s t h = finds_counted (finds_pointer (designated_finds e v _ t h))
     node_finds k line (cast e) v s t h = finds_counted (converts k e v _ (λ x g. address_finds e x _ t g) h)
     node_finds k line (convert e) v s t h = converts k e v s (λ x g. address_finds e x s t g) h

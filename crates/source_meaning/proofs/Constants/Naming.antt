@@ -84,6 +84,7 @@ module _ (ps : Pointers) where
     node_address_unnamed k (decay p) v h = one (place_unnamed p v h)
     node_address_unnamed k (address p) v h = one (place_unnamed p v h)
     node_address_unnamed k (parenthesized e) v h = one (address_unnamed e v h)
+    node_address_unnamed k (deref_function e) v h = one (address_unnamed e v h)
     node_address_unnamed k (address_function e) v h = one (designated_unnamed e v h)
     node_address_unnamed k (cast e) v h = one (converted_unnamed k (kind_of e) e v (λ x g. address_unnamed e x g) h)
     node_address_unnamed k (convert e) v h = one (converted_unnamed k (kind_of e) e v (λ x g. address_unnamed e x g) h)

@@ -4,6 +4,7 @@
 use Rattle.std.proofs.Common.{◌≡◌, [], ◌∷◌, Some, None, refl}
 use Rattle.std.specs.Prelude.{codes}
 use Rattle.c_lexer.specs.declared.keyword.Keyword.TheVariants as keyword
+use Rattle.c_lexer.specs.declared.punctuator.Punctuator.TheVariants as sign
 use Rattle.c_syntax.specs.Statements as s
 use Rattle.c_syntax.specs.Tree as t
 use Rattle.c_faults.specs.declared.fault.Rule.TheVariants as rule
@@ -36,7 +37,7 @@ use Rattle.c_initializer_rules.specs.Initializing.{closed, opened, with_literal,
 use Rattle.c_initializer_rules.specs.Placed.{without}
 use Rattle.c_unit_typing.specs.Typed.{typed_unit}
 use Rattle.typing_rows.proofs.Units.Sources.{at, declaration, declarators, designation, function, init_declarator}
-use Rattle.typing_rows.proofs.Units.Sources.{refused, source, spelled, word}
+use Rattle.typing_rows.proofs.Units.Sources.{inconstant, refused, source, spelled, word}
 
 -- int a[1]={
 -- 1,2};
@@ -283,6 +284,31 @@ unfolding balanced_type common_type fit is_signed mixed_type promoted rank size_
     start reached reached_by reached_in element_number member_number number_behind part closed opened with_literal
     with_value without first_not_constant typed_unit
 no_conversion = refl
+
+-- void f(void){}void(*p)(void)=f;
+-- void(*q)(void)=
+-- *p;int main(void){return 0;}
+function_of_an_object :
+    (source ((s.definition (t.specifiers (word keyword.Void 1) t.no_specifiers) (t.function (t.named (spelled (codes
+    "f") 1)) (at 1) (t.void_parameters (at 1)) (at 1)) (s.block (at 1) s.no_items (at 1))) ∷ (s.declaration
+    (declaration (t.specifiers (word keyword.Void 1) t.no_specifiers) (Some (declarators (init_declarator (t.function
+    (t.grouped (at 1) (t.pointer (at 1) [] (t.named (spelled (codes "p") 1))) (at 1)) (at 1) (t.void_parameters (at
+    1)) (at 1)) (Some ((at 1), (t.value (t.identifier (spelled (codes "f") 1)))))) [])) (at 1))) ∷ (s.declaration
+    (declaration (t.specifiers (word keyword.Void 2) t.no_specifiers) (Some (declarators (init_declarator (t.function
+    (t.grouped (at 2) (t.pointer (at 2) [] (t.named (spelled (codes "q") 2))) (at 2)) (at 2) (t.void_parameters (at
+    2)) (at 2)) (Some ((at 2), (t.value (t.unary sign.Star (at 3) (t.identifier (spelled (codes "p") 3))))))) [])) (at
+    3))) ∷ (s.definition (t.specifiers (word keyword.Int 3) t.no_specifiers) (t.function (t.named (spelled (codes
+    "main") 3)) (at 3) (t.void_parameters (at 3)) (at 3)) (s.block (at 3) (s.items (s.inner (s.return (at 3) (Some
+    (t.integer (spelled (codes "0") 3))) (at 3))) s.no_items) (at 3))) ∷ []) 3)
+    ≡ inconstant 3
+unfolding balanced_type common_type fit is_signed mixed_type promoted rank size_of unsigned_of binary_value
+    shift_amount unary_value constant_in constant_of greatest_of suffix_of typed types_of bytes_of_literal character_value
+    characters_of escaped literal_step next_character extent_of array_size member_offsets structure_of union_of room
+    is_valid_program constant_word binary assigned cast row_of comma combined unary dereferenced indexed size_of_words
+    assignment compound stepped condition conditional switch_value called called_through routine_words composite judged
+    start reached reached_by reached_in element_number member_number number_behind part closed opened with_literal
+    with_value without first_not_constant typed_unit
+function_of_an_object = refl
 
 -- int a[]={
 -- sizeof a};

@@ -329,6 +329,47 @@ unfolding balanced_type common_type fit is_signed mixed_type promoted rank size_
     with_value without first_not_constant typed_unit
 counted = refl
 
+-- void f(void){}void(*p)(void)=*f,(*q)(void)=&*(**f),(*r)(void)=(*&f);int main(void){p=q;return 0;}
+function_designators :
+    (source ((s.definition (t.specifiers (word keyword.Void 1) t.no_specifiers) (t.function (t.named (spelled (codes
+    "f") 1)) (at 1) (t.void_parameters (at 1)) (at 1)) (s.block (at 1) s.no_items (at 1))) ∷ (s.declaration
+    (declaration (t.specifiers (word keyword.Void 1) t.no_specifiers) (Some (declarators (init_declarator (t.function
+    (t.grouped (at 1) (t.pointer (at 1) [] (t.named (spelled (codes "p") 1))) (at 1)) (at 1) (t.void_parameters (at
+    1)) (at 1)) (Some ((at 1), (t.value (t.unary sign.Star (at 1) (t.identifier (spelled (codes "f") 1))))))) ((
+      (at
+          1),
+      (init_declarator (t.function (t.grouped (at 1) (t.pointer (at 1) [] (t.named (spelled (codes "q") 1))) (at 1))
+          (at 1) (t.void_parameters (at 1)) (at 1)) (Some (
+            (at 1),
+            (t.value (t.unary sign.Ampersand (at 1) (t.unary
+                sign.Star (at 1) (t.parenthesized (at 1) (t.unary sign.Star (at 1) (t.unary sign.Star (at 1) (t.identifier
+                (spelled (codes "f") 1)))) (at 1))))),
+          ))),
+    ) ∷ (
+      (at 1),
+      (init_declarator (t.function (t.grouped (at 1) (t.pointer (at
+          1) [] (t.named (spelled (codes "r") 1))) (at 1)) (at 1) (t.void_parameters (at 1)) (at 1)) (Some (
+            (at 1),
+            (t.value
+                (t.parenthesized (at 1) (t.unary sign.Star (at 1) (t.unary sign.Ampersand (at 1) (t.identifier (spelled (codes
+                "f") 1)))) (at 1))),
+          ))),
+    ) ∷ []))) (at 1))) ∷ (s.definition (t.specifiers (word keyword.Int 1) t.no_specifiers)
+    (t.function (t.named (spelled (codes "main") 1)) (at 1) (t.void_parameters (at 1)) (at 1)) (s.block (at 1)
+    (s.items (s.inner (s.expression (Some (t.assignment (t.identifier (spelled (codes "p") 1)) sign.Assign (at 1)
+    (t.identifier (spelled (codes "q") 1)))) (at 1))) (s.items (s.inner (s.return (at 1) (Some (t.integer (spelled
+    (codes "0") 1))) (at 1))) s.no_items)) (at 1))) ∷ []) 1)
+    ≡ accepted true ((8, (None, ((0, other) ∷ []))) ∷ (8, (None, ((0, other) ∷ []))) ∷ (8, (None, ((0, other) ∷ [])))
+    ∷ []) (function 1 0 [] [] [] ∷ function 1 1 [] [] (other ∷ number 0 ∷ []) ∷ [])
+unfolding balanced_type common_type fit is_signed mixed_type promoted rank size_of unsigned_of binary_value
+    shift_amount unary_value constant_in constant_of greatest_of suffix_of typed types_of bytes_of_literal character_value
+    characters_of escaped literal_step next_character extent_of array_size member_offsets structure_of union_of room
+    is_valid_program constant_word binary assigned cast row_of comma combined unary dereferenced indexed size_of_words
+    assignment compound stepped condition conditional switch_value called called_through routine_words composite judged
+    start reached reached_by reached_in element_number member_number number_behind part closed opened with_literal
+    with_value without first_not_constant typed_unit
+function_designators = refl
+
 -- unsigned char c=257;long l=-1;int main(void){return 0;}
 converted :
     (source ((s.declaration (declaration (t.specifiers (word keyword.Unsigned 1) (t.specifiers (word keyword.Char 1)

@@ -1,6 +1,6 @@
 use Rattle.std.proofs.Common.{◌≡◌, ◌<◌, ◌^◌, ℕ, Some, length}
 use Rattle.std.specs.Prelude.{slice_get}
-use Rattle.flat_meaning.specs.declared.function.FlatFunction.{FlatFunction}
+use Rattle.flat_code.specs.declared.function.FlatFunction.{FlatFunction}
 use Rattle.code_generation_vectors.proofs.plans.is_small.Given as goal
 
 abbrev pub invariant-loop-number : goal.invariant-loop-number

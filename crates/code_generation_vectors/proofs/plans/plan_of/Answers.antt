@@ -1,5 +1,5 @@
 use Rattle.std.proofs.Common.{◌≡◌, List, ap, sym, subst, arith, length}
-use Rattle.flat_meaning.specs.declared.instruction.FlatInstruction.{FlatInstruction}
+use Rattle.flat_code.specs.declared.instruction.FlatInstruction.{FlatInstruction}
 use Rattle.reg_plan.specs.Needs.{IsNeeded}
 use Rattle.reg_plan.proofs.Plans.{needed_is_named}
 use Rattle.code_generation_vectors.proofs.plans.plan_of.Goals as goal

@@ -1,6 +1,6 @@
 use Rattle.std.proofs.Common.{sym, subst}
 use Rattle.flat_actions.proofs.Shapes.{judge_shape}
-use Rattle.flat_routines.proofs.Shape.{same_shape}
+use Rattle.flat_code.proofs.Routines.Shape.{same_shape}
 use Rattle.std.proofs.lemmas.Result.{IfOk-weaker}
 use Rattle.flat_actions.specs.Judgement.Judging.{IsJudgeRoutine}
 use Rattle.flat_actions.proofs.Judgement.Judges.{judges}

@@ -1,5 +1,5 @@
 use Rattle.std.proofs.Common.{refl}
-use Rattle.flat_routines.proofs.InputOutput.{computes}
+use Rattle.flat_code.proofs.Routines.InputOutput.{computes}
 use Rattle.flat_actions.specs.Narrowing.{narrow_code}
 use Rattle.flat_actions.proofs.Narrowed.{narrow_does, goes_on}
 use Rattle.flat_actions.proofs.Shapes.{narrow_shape}

@@ -1,5 +1,5 @@
 use Rattle.std.proofs.Common.{refl}
-use Rattle.flat_routines.proofs.InputOutput.{computes}
+use Rattle.flat_code.proofs.Routines.InputOutput.{computes}
 use Rattle.flat_actions.specs.Judgement.Code.{spatial_code, temporal_code}
 use Rattle.flat_actions.proofs.Judgement.Tests.{spatial_does, temporal_does}
 use Rattle.flat_actions.proofs.Shapes.{spatial_shape, temporal_shape}

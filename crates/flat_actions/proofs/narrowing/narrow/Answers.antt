@@ -1,7 +1,7 @@
 use Rattle.std.proofs.Common.{refl, sym, subst}
 use Rattle.std.proofs.lemmas.Result.{IfOk-weaker}
-use Rattle.flat_routines.specs.InputOutput.{IsWithoutInputOutput}
-use Rattle.flat_routines.proofs.InputOutput.{computes}
+use Rattle.flat_code.specs.Routines.InputOutput.{IsWithoutInputOutput}
+use Rattle.flat_code.proofs.Routines.InputOutput.{computes}
 use Rattle.flat_actions.specs.Narrowing.{IsNarrowRoutine, IsMoveOnRoutine, narrow_code}
 use Rattle.flat_actions.proofs.Narrowed.{narrow_does, goes_on}
 use Rattle.flat_actions.proofs.narrowing.narrow.Goals as goal

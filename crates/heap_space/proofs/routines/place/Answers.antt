@@ -2,9 +2,9 @@ use Rattle.std.proofs.Common.{sym, subst, ◌+◌, refl}
 use Rattle.std.proofs.lemmas.Result.{IfOk-weaker}
 use Rattle.heap_space.specs.Routines.{IsPlaceRoutine}
 use Rattle.heap_space.proofs.Places.{place_does}
-use Rattle.flat_routines.specs.InputOutput.{IsWithoutInputOutput}
-use Rattle.flat_routines.proofs.InputOutput.{computes}
-use Rattle.flat_routines.specs.Shape.{HasShape}
+use Rattle.flat_code.specs.Routines.InputOutput.{IsWithoutInputOutput}
+use Rattle.flat_code.proofs.Routines.InputOutput.{computes}
+use Rattle.flat_code.specs.Routines.Shape.{HasShape}
 use Rattle.heap_space.proofs.Shapes.{place_shape}
 use Rattle.heap_space.specs.Routines.{place_code}
 use Rattle.heap_space.proofs.routines.place.Goals as goal

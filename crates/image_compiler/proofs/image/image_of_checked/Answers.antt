@@ -1,6 +1,6 @@
 use Rattle.std.proofs.Common.{sym, subst, ap, length, arith}
 use Rattle.reg_plan.specs.Planned.{ArePlannable}
-use Rattle.flat_meaning.specs.declared.function.FlatProgram.{FlatProgram}
+use Rattle.flat_code.specs.declared.function.FlatProgram.{FlatProgram}
 use Rattle.image_laws.proofs.Images.Runtime.{flat_count}
 use Rattle.image_compiler.proofs.Images.{compiled_result, never_runtime}
 use Rattle.image_compiler.proofs.image.image_of_checked.Goals as goal

@@ -1,6 +1,6 @@
 use Rattle.lock_space.proofs.Spaces.{locks_laid_out}
 use Rattle.lock_space.proofs.Local.{good_kept, lock_kept, counter_kept}
-use Rattle.flat_routines.proofs.Objects.Changing.{global_is_lock}
+use Rattle.flat_code.proofs.Routines.Objects.Changing.{global_is_lock}
 use Rattle.lock_space.proofs.laws.locks_are_local.Goals as goal
 
 pub returns-clause-good : goal.returns-clause-good

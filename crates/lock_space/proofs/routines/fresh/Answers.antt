@@ -2,9 +2,9 @@ use Rattle.std.proofs.Common.{sym, subst, ◌+◌, refl}
 use Rattle.std.proofs.lemmas.Result.{IfOk-weaker}
 use Rattle.lock_space.specs.Routines.{IsFreshRoutine}
 use Rattle.lock_space.proofs.NewKeys.{fresh_does}
-use Rattle.flat_routines.specs.InputOutput.{IsWithoutInputOutput}
-use Rattle.flat_routines.proofs.InputOutput.{computes}
-use Rattle.flat_routines.specs.Shape.{HasShape}
+use Rattle.flat_code.specs.Routines.InputOutput.{IsWithoutInputOutput}
+use Rattle.flat_code.proofs.Routines.InputOutput.{computes}
+use Rattle.flat_code.specs.Routines.Shape.{HasShape}
 use Rattle.lock_space.proofs.Shapes.{fresh_shape}
 use Rattle.lock_space.specs.Routines.{fresh_code}
 use Rattle.lock_space.proofs.routines.fresh.Goals as goal

@@ -1,11 +1,11 @@
 use Rattle.std.proofs.Common.{◌+◌, refl, sym, subst}
 use Rattle.std.proofs.lemmas.Result.{IfOk-weaker}
-use Rattle.flat_routines.specs.InputOutput.{IsWithoutInputOutput}
-use Rattle.flat_routines.proofs.InputOutput.{computes}
+use Rattle.flat_code.specs.Routines.InputOutput.{IsWithoutInputOutput}
+use Rattle.flat_code.proofs.Routines.InputOutput.{computes}
 use Rattle.lock_space.specs.Routines.{release_code}
 use Rattle.lock_space.specs.Routines.{IsReleaseRoutine}
 use Rattle.lock_space.proofs.FreedLocks.{release_does}
-use Rattle.flat_routines.specs.Shape.{HasShape}
+use Rattle.flat_code.specs.Routines.Shape.{HasShape}
 use Rattle.lock_space.proofs.Shapes.{release_shape}
 use Rattle.lock_space.proofs.routines.release.Goals as goal
 

@@ -1,5 +1,5 @@
 use Rattle.std.proofs.Common.{◌+◌, ◌∷◌, [], ◌++◌, ap, ◌∙◌}
-use Rattle.flat_meaning.specs.declared.instruction.FlatInstruction.TheVariants.{Move}
+use Rattle.flat_code.specs.declared.instruction.FlatInstruction.TheVariants.{Move}
 use Rattle.metadata_expansion.proofs.Lists.{moves_put}
 use Rattle.metadata_expansion.proofs.calls.put_arguments.Goals as goal
 

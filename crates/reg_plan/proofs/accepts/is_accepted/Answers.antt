@@ -1,6 +1,6 @@
 use Rattle.std.proofs.Common.{◌≡◌, ℕ, List, Some, subst, sym, refl, length}
 use Rattle.std.specs.Prelude.{slice_get}
-use Rattle.flat_meaning.specs.declared.instruction.FlatInstruction.{FlatInstruction}
+use Rattle.flat_code.specs.declared.instruction.FlatInstruction.{FlatInstruction}
 use Rattle.reg_plan.specs.Tests.{IsClosedAt, IsKept}
 use Rattle.reg_plan.proofs.Exact.{accepted_from, closed_at, kept_from}
 use Rattle.reg_plan.proofs.accepts.is_accepted.Goals as goal

@@ -2,8 +2,8 @@ use Rattle.std.proofs.Common.{◌≡◌, ◌<◌, ℕ, List, subst, sym, arith, 
 use Rattle.std.specs.Prelude.{slice_get}
 use Rattle.data_flow.specs.Relations.{Has, images}
 use Rattle.data_flow.specs.Reached.{IsReached}
-use Rattle.flat_meaning.specs.declared.instruction.FlatInstruction.{FlatInstruction}
-use Rattle.flat_meaning.specs.declared.function.FlatProgram.{FlatProgram}
+use Rattle.flat_code.specs.declared.instruction.FlatInstruction.{FlatInstruction}
+use Rattle.flat_code.specs.declared.function.FlatProgram.{FlatProgram}
 use Rattle.reg_plan.specs.declared.flow.Problem.{Problem}
 use Rattle.reg_plan.specs.Needs.{IsNeeded}
 use Rattle.reg_plan.specs.Flow.{Represents}

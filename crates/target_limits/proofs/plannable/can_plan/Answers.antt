@@ -1,5 +1,5 @@
 use Rattle.std.proofs.Common.{List, ap, sym, subst, arith, length}
-use Rattle.flat_meaning.specs.declared.instruction.FlatInstruction.{FlatInstruction}
+use Rattle.flat_code.specs.declared.instruction.FlatInstruction.{FlatInstruction}
 use Rattle.reg_plan.specs.Needs.{IsNeeded}
 use Rattle.target_limits.proofs.Planning.{plannable}
 use Rattle.target_limits.proofs.plannable.can_plan.Goals as goal

@@ -1,6 +1,6 @@
 use Rattle.std.proofs.Common.{◌≡◌, ◌<◌, ℕ, Some}
 use Rattle.std.specs.Prelude.{slice_get}
-use Rattle.flat_meaning.specs.declared.function.FlatFunction.{FlatFunction}
+use Rattle.flat_code.specs.declared.function.FlatFunction.{FlatFunction}
 use Rattle.reg_plan.specs.Planned.{IsPlannable}
 use Rattle.target_limits.proofs.plannable.is_plannable.Given as goal
 

@@ -1,8 +1,8 @@
 use Rattle.std.proofs.Common.{◌≡◌, refl, sym, subst}
 use Rattle.std.specs.Prelude.{IfOk}
 use Rattle.std.proofs.lemmas.Result.{IfOk-weaker}
-use Rattle.flat_routines.specs.InputOutput.{IsWithoutInputOutput}
-use Rattle.flat_routines.proofs.InputOutput.{computes}
+use Rattle.flat_code.specs.Routines.InputOutput.{IsWithoutInputOutput}
+use Rattle.flat_code.proofs.Routines.InputOutput.{computes}
 use Rattle.lib_wrappers.specs.AccessRoutines.Accessing.{IsStoreRoutine, store_integer_code, store_code}
 use Rattle.lib_wrappers.proofs.AccessRoutines.IntegerStores.{store_integer_does}
 use Rattle.lib_wrappers.proofs.accesses.storing.store.Goals as goal

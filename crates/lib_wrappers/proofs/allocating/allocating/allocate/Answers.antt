@@ -1,6 +1,6 @@
 use Rattle.std.proofs.Common.{sym, subst, ◌+◌}
 use Rattle.lib_wrappers.proofs.AllocatingRoutines.Shapes.{malloc_shape}
-use Rattle.flat_routines.proofs.Shape.{same_shape}
+use Rattle.flat_code.proofs.Routines.Shape.{same_shape}
 use Rattle.lib_wrappers.specs.AllocatingRoutines.Allocating.{IsAllocateRoutine, malloc_code}
 use Rattle.flat_actions.proofs.ByParts.{by_three}
 use Rattle.lib_wrappers.proofs.AllocatingRoutines.Allocates.{allocate_does}

@@ -1,6 +1,6 @@
 use Rattle.std.proofs.Common.{sym, subst, ◌+◌}
 use Rattle.lib_wrappers.proofs.AllocatingRoutines.Shapes.{calloc_shape}
-use Rattle.flat_routines.proofs.Shape.{same_shape}
+use Rattle.flat_code.proofs.Routines.Shape.{same_shape}
 use Rattle.lib_wrappers.specs.AllocatingRoutines.Allocating.{IsCallocRoutine, calloc_code}
 use Rattle.flat_actions.proofs.ByParts.{by_body}
 use Rattle.lib_wrappers.proofs.AllocatingRoutines.Callocs.{calloc_does}

@@ -1,7 +1,7 @@
 use Rattle.std.proofs.Common.{sym, subst, ◌+◌}
 use Rattle.lib_wrappers.proofs.AllocatingRoutines.Shapes.{enter_shape, enter_quiet}
 use Rattle.lib_wrappers.proofs.Quiet.{same_quiet}
-use Rattle.flat_routines.proofs.Shape.{same_shape}
+use Rattle.flat_code.proofs.Routines.Shape.{same_shape}
 use Rattle.lib_wrappers.specs.AllocatingRoutines.Entering.{IsEnterRoutine, enter_code}
 use Rattle.flat_actions.proofs.ByParts.{by_two}
 use Rattle.lib_wrappers.proofs.AllocatingRoutines.Enters.{enter_does}

@@ -1,6 +1,6 @@
 use Rattle.std.proofs.Common.{sym, subst, ◌+◌}
 use Rattle.lib_wrappers.proofs.AllocatingRoutines.Shapes.{free_shape}
-use Rattle.flat_routines.proofs.Shape.{same_shape}
+use Rattle.flat_code.proofs.Routines.Shape.{same_shape}
 use Rattle.lib_wrappers.specs.AllocatingRoutines.Freeing.{IsFreeRoutine, free_code}
 use Rattle.flat_actions.proofs.ByParts.{by_three}
 use Rattle.lib_wrappers.proofs.AllocatingRoutines.Frees.{free_does}

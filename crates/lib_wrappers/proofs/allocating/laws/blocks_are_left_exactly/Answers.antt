@@ -1,5 +1,5 @@
 use Rattle.std.proofs.Common.{refl}
-use Rattle.flat_routines.proofs.InputOutput.{computes}
+use Rattle.flat_code.proofs.Routines.InputOutput.{computes}
 use Rattle.lock_space.proofs.FreedLocks.{release_does}
 use Rattle.lock_space.proofs.Shapes.{release_shape}
 use Rattle.lib_wrappers.specs.AllocatingRoutines.Entering.{leave_code}

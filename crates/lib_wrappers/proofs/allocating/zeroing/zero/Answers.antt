@@ -1,8 +1,8 @@
 use Rattle.std.proofs.Common.{sym, subst, ◌+◌, ◌++◌, refl}
-use Rattle.flat_routines.proofs.InputOutput.{computes}
+use Rattle.flat_code.proofs.Routines.InputOutput.{computes}
 use Rattle.lib_wrappers.proofs.AllocatingRoutines.Shapes.{zero_shape}
 use Rattle.lib_wrappers.proofs.Quiet.{joined_quiet, same_quiet}
-use Rattle.flat_routines.proofs.Shape.{same_shape}
+use Rattle.flat_code.proofs.Routines.Shape.{same_shape}
 use Rattle.lib_wrappers.specs.AllocatingRoutines.Zeroing.{IsZeroRoutine, word_bytes, zero_bytes, zero_code}
 use Rattle.flat_actions.proofs.ByParts.{by_body}
 use Rattle.lib_wrappers.proofs.AllocatingRoutines.Zeroed.{zero_does}

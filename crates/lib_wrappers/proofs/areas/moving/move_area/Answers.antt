@@ -1,5 +1,5 @@
 use Rattle.std.proofs.Common.{sym, subst, refl, ◌∙◌, ◌++◌}
-use Rattle.flat_routines.proofs.InputOutput.{computes}
+use Rattle.flat_code.proofs.Routines.InputOutput.{computes}
 use Rattle.flat_actions.proofs.ByParts.{joined_are}
 use Rattle.lib_wrappers.specs.AreaRoutines.Moving.{IsMoveAreaRoutine, move_parts, clear_rest}
 use Rattle.lib_wrappers.proofs.AreaRoutines.MoveAreas.{moves_areas}

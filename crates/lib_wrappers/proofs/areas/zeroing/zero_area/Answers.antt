@@ -1,9 +1,9 @@
 use Rattle.std.proofs.Common.{sym, subst, refl}
 use Rattle.std.proofs.lemmas.Result.{IfOk-weaker}
-use Rattle.flat_routines.proofs.InputOutput.{computes}
+use Rattle.flat_code.proofs.Routines.InputOutput.{computes}
 use Rattle.lib_wrappers.specs.AreaRoutines.Zeroing.{IsZeroAreaRoutine, zero_area_code}
 use Rattle.lib_wrappers.proofs.AreaRoutines.ZeroAreas.{zeros_areas}
-use Rattle.flat_routines.proofs.Shape.{same_shape}
+use Rattle.flat_code.proofs.Routines.Shape.{same_shape}
 use Rattle.lib_wrappers.proofs.Quiet.{same_quiet}
 use Rattle.lib_wrappers.proofs.AreaRoutines.Shapes.{zero_area_shape}
 use Rattle.lib_wrappers.proofs.areas.zeroing.zero_area.Goals as goal

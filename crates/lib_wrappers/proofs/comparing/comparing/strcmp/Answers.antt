@@ -1,6 +1,6 @@
 use Rattle.std.proofs.Common.{sym, subst}
 use Rattle.lib_wrappers.proofs.Shapes.{strcmp_shape}
-use Rattle.flat_routines.proofs.Shape.{same_shape}
+use Rattle.flat_code.proofs.Routines.Shape.{same_shape}
 use Rattle.std.proofs.lemmas.Result.{IfOk-weaker}
 use Rattle.lib_wrappers.specs.ComparingRoutines.Comparing.{IsStrcmp}
 use Rattle.lib_wrappers.proofs.ComparingRoutines.Compared.{strcmp_does}

@@ -1,8 +1,8 @@
 use Rattle.std.proofs.Common.{sym, subst}
 use Rattle.lib_wrappers.proofs.Shapes.{fill_shape}
-use Rattle.flat_routines.proofs.Shape.{same_shape}
+use Rattle.flat_code.proofs.Routines.Shape.{same_shape}
 use Rattle.std.proofs.lemmas.Result.{IfOk-weaker}
-use Rattle.flat_routines.proofs.Regions.{laid_out}
+use Rattle.flat_code.proofs.Routines.Regions.{laid_out}
 use Rattle.flat_actions.specs.Ranges.{IsFillRoutine}
 use Rattle.lib_wrappers.proofs.MovingRoutines.Fills.{fills}
 use Rattle.lib_wrappers.proofs.moving.filling.fill.Goals as goal

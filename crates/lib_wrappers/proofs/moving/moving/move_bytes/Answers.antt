@@ -1,11 +1,11 @@
 use Rattle.std.proofs.Common.{sym, subst, refl}
-use Rattle.flat_routines.proofs.InputOutput.{computes}
+use Rattle.flat_code.proofs.Routines.InputOutput.{computes}
 use Rattle.lib_wrappers.specs.MovingRoutines.Moving.{move_bytes_code}
 use Rattle.lib_wrappers.proofs.Quiet.{same_quiet}
 use Rattle.lib_wrappers.proofs.Shapes.{move_bytes_shape}
-use Rattle.flat_routines.proofs.Shape.{same_shape}
+use Rattle.flat_code.proofs.Routines.Shape.{same_shape}
 use Rattle.std.proofs.lemmas.Result.{IfOk-weaker}
-use Rattle.flat_routines.proofs.Regions.{laid_out}
+use Rattle.flat_code.proofs.Routines.Regions.{laid_out}
 use Rattle.flat_actions.specs.Ranges.{IsByteMoveRoutine}
 use Rattle.lib_wrappers.proofs.MovingRoutines.Bytes.{moves_bytes}
 use Rattle.lib_wrappers.proofs.moving.moving.move_bytes.Goals as goal

@@ -1,8 +1,8 @@
 use Rattle.std.proofs.Common.{sym, subst, refl}
 use Rattle.std.proofs.lemmas.Result.{IfOk-weaker}
-use Rattle.flat_routines.proofs.Shape.{same_shape}
+use Rattle.flat_code.proofs.Routines.Shape.{same_shape}
 use Rattle.lib_wrappers.proofs.MovingRoutines.Bytes.{moves_usable}
-use Rattle.flat_routines.proofs.InputOutput.{computes}
+use Rattle.flat_code.proofs.Routines.InputOutput.{computes}
 use Rattle.lib_wrappers.specs.MovingRoutines.Moving.{IsUsableMoveRoutine, move_bytes_code}
 use Rattle.lib_wrappers.proofs.Quiet.{same_quiet}
 use Rattle.lib_wrappers.proofs.Shapes.{move_bytes_shape}

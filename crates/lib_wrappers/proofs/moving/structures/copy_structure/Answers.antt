@@ -1,5 +1,5 @@
 use Rattle.std.proofs.Common.{sym, subst, ◌∷◌}
-use Rattle.flat_meaning.specs.declared.instruction.FlatInstruction.TheVariants.{Constant}
+use Rattle.flat_code.specs.declared.instruction.FlatInstruction.TheVariants.{Constant}
 use Rattle.lib_wrappers.specs.MovingRoutines.Structures.{CopiesStructure}
 use Rattle.flat_actions.proofs.ByParts.{by_body}
 use Rattle.lib_wrappers.proofs.MovingRoutines.Copies.{copies_as}

@@ -1,6 +1,6 @@
 use Rattle.std.proofs.Common.{[], ◌∷◌, ◌++◌, refl, ◌∙◌, arith}
 use Rattle.std.proofs.lemmas.Result.{IfOk-weaker}
-use Rattle.flat_meaning.specs.declared.instruction.FlatInstruction.TheVariants.{Constant}
+use Rattle.flat_code.specs.declared.instruction.FlatInstruction.TheVariants.{Constant}
 use Rattle.flat_actions.proofs.ByParts.{joined_are}
 use Rattle.lib_wrappers.specs.PrintingRoutines.Formats.{counted_code}
 use Rattle.lib_wrappers.proofs.PrintingRoutines.Steps.{few_arguments, prints_these}

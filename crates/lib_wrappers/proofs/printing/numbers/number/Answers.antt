@@ -1,6 +1,6 @@
 use Rattle.std.proofs.Common.{sym, subst}
 use Rattle.lib_wrappers.proofs.Shapes.{number_shape}
-use Rattle.flat_routines.proofs.Shape.{same_shape}
+use Rattle.flat_code.proofs.Routines.Shape.{same_shape}
 use Rattle.std.proofs.lemmas.Result.{IfOk-weaker}
 use Rattle.lib_wrappers.specs.PrintingRoutines.Numbers.{IsNumberRoutine}
 use Rattle.lib_wrappers.proofs.PrintingRoutines.NumberRoutines.{number_prints}

@@ -1,6 +1,6 @@
 use Rattle.std.proofs.Common.{◌+◌, ◌++◌, refl, ◌∙◌}
 use Rattle.lib_wrappers.proofs.Shapes.{filled_up_shape}
-use Rattle.flat_routines.proofs.Shape.{same_shape}
+use Rattle.flat_code.proofs.Routines.Shape.{same_shape}
 use Rattle.std.proofs.lemmas.Result.{IfOk-weaker}
 use Rattle.lib_wrappers.specs.StringRoutines.Copying.{count_code, tail_code}
 use Rattle.lib_wrappers.proofs.StringRoutines.Made.{is_filled_up}

@@ -1,6 +1,6 @@
 use Rattle.std.proofs.Common.{[], ◌∷◌, ◌+◌, ◌++◌, refl, sym, ◌∙◌, subst}
 use Rattle.lib_wrappers.proofs.Shapes.{puts_shape}
-use Rattle.flat_routines.proofs.Shape.{same_shape}
+use Rattle.flat_code.proofs.Routines.Shape.{same_shape}
 use Rattle.std.proofs.lemmas.Result.{IfOk-weaker}
 use Rattle.source_meaning.specs.Printing.{puts as puts_of}
 use Rattle.source_meaning.specs.Library.{argument}

@@ -1,6 +1,6 @@
 use Rattle.std.proofs.Common.{ℕ, ◌+◌, ◌≤◌, refl, ◌∙◌}
 use Rattle.std.proofs.lemmas.Result.{IfOk-weaker}
-use Rattle.flat_routines.specs.Shape.{HasShape}
+use Rattle.flat_code.specs.Routines.Shape.{HasShape}
 use Rattle.flat_actions.proofs.ByParts.{joined_are}
 use Rattle.lib_wrappers.proofs.Shapes.{first_judged_shape}
 use Rattle.lib_wrappers.proofs.strings.scanning.first_judged.Goals as goal

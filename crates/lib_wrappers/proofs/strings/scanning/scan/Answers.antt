@@ -1,7 +1,7 @@
 use Rattle.std.proofs.Common.{refl, ℕ, ◌+◌, ◌<◌, ◌≤◌, arith}
-use Rattle.flat_routines.proofs.Shape.{at_most}
+use Rattle.flat_code.proofs.Routines.Shape.{at_most}
 use Rattle.std.proofs.lemmas.Result.{IfOk-weaker}
-use Rattle.flat_routines.specs.Shape.{HasShape}
+use Rattle.flat_code.specs.Routines.Shape.{HasShape}
 use Rattle.lib_wrappers.proofs.StringRoutines.ScanRoutines.{scans_string}
 use Rattle.lib_wrappers.proofs.strings.scanning.scan.Goals as goal
 use Rattle.flat_actions.specs.Actions.{runtime_basis}

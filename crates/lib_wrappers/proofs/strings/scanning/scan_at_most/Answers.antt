@@ -1,6 +1,6 @@
 use Rattle.std.proofs.Common.{refl, ℕ, ◌+◌, ◌<◌, ◌≤◌, arith}
 use Rattle.std.proofs.lemmas.Result.{IfOk-weaker}
-use Rattle.flat_routines.specs.Shape.{HasShape}
+use Rattle.flat_code.specs.Routines.Shape.{HasShape}
 use Rattle.lib_wrappers.proofs.StringRoutines.ScanRoutines.{scans_at_most}
 use Rattle.lib_wrappers.proofs.strings.scanning.scan_at_most.Goals as goal
 use Rattle.flat_actions.specs.Actions.{runtime_basis}

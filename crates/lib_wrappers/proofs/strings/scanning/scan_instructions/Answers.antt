@@ -1,6 +1,6 @@
 use Rattle.std.proofs.Common.{ℕ, ◌+◌, ◌<◌, ◌≤◌}
 use Rattle.std.proofs.lemmas.Result.{IfOk-weaker}
-use Rattle.flat_routines.specs.Shape.{HasShape}
+use Rattle.flat_code.specs.Routines.Shape.{HasShape}
 use Rattle.lib_wrappers.specs.StringRoutines.Scanning.{scan_turns}
 use Rattle.lib_wrappers.proofs.Shapes.{scan_turns_shape}
 use Rattle.lib_wrappers.proofs.strings.scanning.scan_instructions.Goals as goal

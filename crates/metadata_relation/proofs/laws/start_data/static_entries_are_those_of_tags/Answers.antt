@@ -1,6 +1,6 @@
 use Rattle.tac_ir.specs.Meaning.{placed_data}
 use Rattle.addr_map.specs.Places.{objects_begin}
-use Rattle.flat_routines.specs.Metadata.{no_metadata}
+use Rattle.flat_code.specs.Routines.Metadata.{no_metadata}
 use Rattle.metadata_relation.proofs.StartData.{are_start_entries, are_entries_of}
 use Rattle.metadata_relation.proofs.laws.start_data.static_entries_are_those_of_tags.Goals as goal
 

@@ -1,5 +1,5 @@
 use Rattle.std.proofs.Common.{◌∙◌, List, length, get_or, ap, arith}
-use Rattle.flat_meaning.specs.declared.instruction.FlatInstruction.{FlatInstruction}
+use Rattle.flat_code.specs.declared.instruction.FlatInstruction.{FlatInstruction}
 use Rattle.reg_plan.specs.Saves.Saves.{calls_before, saved_below}
 use Rattle.reg_plan.proofs.Saves.Calls.{count_at, saved_more}
 use Rattle.reg_plan.proofs.call_saves.saves.rows_of.Goals as goal

@@ -1,12 +1,12 @@
 use Rattle.std.proofs.Common.{sym, subst, ◌+◌, refl}
 use Rattle.std.proofs.lemmas.Result.{IfOk-weaker}
-use Rattle.flat_routines.proofs.Regions.{laid_out}
+use Rattle.flat_code.proofs.Routines.Regions.{laid_out}
 use Rattle.shadow_space.specs.Form.{IsClearRoutine}
 use Rattle.shadow_space.specs.Direct.{direct_entry}
 use Rattle.shadow_space.proofs.Clearing.{direct_clears}
-use Rattle.flat_routines.specs.InputOutput.{IsWithoutInputOutput}
-use Rattle.flat_routines.proofs.InputOutput.{computes}
-use Rattle.flat_routines.specs.Shape.{HasShape}
+use Rattle.flat_code.specs.Routines.InputOutput.{IsWithoutInputOutput}
+use Rattle.flat_code.proofs.Routines.InputOutput.{computes}
+use Rattle.flat_code.specs.Routines.Shape.{HasShape}
 use Rattle.shadow_space.proofs.Shapes.{direct_clear_shape}
 use Rattle.shadow_space.specs.Direct.{direct_clear}
 use Rattle.shadow_space.proofs.direct.DirectShadowForm.clear.Goals as goal

@@ -1,4 +1,4 @@
-use Rattle.flat_routines.proofs.Regions.{laid_out}
+use Rattle.flat_code.proofs.Routines.Regions.{laid_out}
 use Rattle.shadow_space.proofs.Entries.{direct_local}
 use Rattle.shadow_space.proofs.direct.DirectShadowForm.entries_are_local.Goals as goal
 

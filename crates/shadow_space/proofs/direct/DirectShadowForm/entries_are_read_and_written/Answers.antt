@@ -1,6 +1,6 @@
 use Rattle.std.proofs.Common.{refl}
-use Rattle.flat_routines.proofs.Regions.{laid_out}
-use Rattle.flat_routines.proofs.InputOutput.{computes}
+use Rattle.flat_code.proofs.Routines.Regions.{laid_out}
+use Rattle.flat_code.proofs.Routines.InputOutput.{computes}
 use Rattle.shadow_space.specs.Direct.{direct_read, direct_write}
 use Rattle.shadow_space.proofs.Entries.{direct_reads, direct_writes}
 use Rattle.shadow_space.proofs.Shapes.{direct_read_shape, direct_write_shape}

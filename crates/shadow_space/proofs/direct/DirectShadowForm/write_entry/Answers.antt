@@ -1,14 +1,14 @@
 use Rattle.std.proofs.Common.{refl, sym, subst, ◌+◌, arith}
 use Rattle.std.proofs.lemmas.Result.{IfOk-weaker}
-use Rattle.flat_routines.proofs.Regions.{laid_out}
-use Rattle.flat_routines.specs.InputOutput.{IsWithoutInputOutput}
-use Rattle.flat_routines.proofs.InputOutput.{computes}
+use Rattle.flat_code.proofs.Routines.Regions.{laid_out}
+use Rattle.flat_code.specs.Routines.InputOutput.{IsWithoutInputOutput}
+use Rattle.flat_code.proofs.Routines.InputOutput.{computes}
 use Rattle.shadow_space.specs.Direct.{direct_write}
 use Rattle.shadow_space.specs.Form.{IsWriteRoutine}
 use Rattle.shadow_space.specs.Direct.{direct_entry}
 use Rattle.shadow_space.proofs.Entries.{direct_writes}
-use Rattle.flat_routines.specs.Shape.{HasShape}
-use Rattle.flat_routines.proofs.Shape.{more}
+use Rattle.flat_code.specs.Routines.Shape.{HasShape}
+use Rattle.flat_code.proofs.Routines.Shape.{more}
 use Rattle.shadow_space.proofs.Shapes.{direct_write_shape}
 use Rattle.shadow_space.proofs.direct.DirectShadowForm.write_entry.Goals as goal
 

@@ -3,9 +3,9 @@ use Rattle.std.proofs.lemmas.Result.{IfOk-weaker}
 use Rattle.shadow_space.specs.Form.{IsClearRoutine}
 use Rattle.shadow_space.specs.TwoLevel.Tables.{two_level_entry, AreTablesGood}
 use Rattle.shadow_space.proofs.TwoLevel.Clearing.{two_level_clears}
-use Rattle.flat_routines.specs.InputOutput.{IsWithoutInputOutput}
-use Rattle.flat_routines.proofs.InputOutput.{computes}
-use Rattle.flat_routines.specs.Shape.{HasShape}
+use Rattle.flat_code.specs.Routines.InputOutput.{IsWithoutInputOutput}
+use Rattle.flat_code.proofs.Routines.InputOutput.{computes}
+use Rattle.flat_code.specs.Routines.Shape.{HasShape}
 use Rattle.shadow_space.proofs.Shapes.{two_level_clear_shape}
 use Rattle.shadow_space.specs.TwoLevel.Code.{two_level_clear}
 use Rattle.shadow_space.proofs.two_levels.two_level.TwoLevelShadowForm.clear.Goals as goal

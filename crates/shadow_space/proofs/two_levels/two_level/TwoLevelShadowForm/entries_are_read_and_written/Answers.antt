@@ -1,5 +1,5 @@
 use Rattle.std.proofs.Common.{refl}
-use Rattle.flat_routines.proofs.InputOutput.{computes}
+use Rattle.flat_code.proofs.Routines.InputOutput.{computes}
 use Rattle.shadow_space.specs.TwoLevel.Code.{two_level_read_behind, two_level_write_behind}
 use Rattle.shadow_space.proofs.TwoLevel.Reading.{two_level_reads}
 use Rattle.shadow_space.proofs.TwoLevel.Writing.{two_level_writes}

@@ -1,13 +1,13 @@
 use Rattle.std.proofs.Common.{◌+◌, refl, sym, subst, arith}
 use Rattle.std.proofs.lemmas.Result.{IfOk-weaker}
-use Rattle.flat_routines.specs.InputOutput.{IsWithoutInputOutput}
-use Rattle.flat_routines.proofs.InputOutput.{computes}
+use Rattle.flat_code.specs.Routines.InputOutput.{IsWithoutInputOutput}
+use Rattle.flat_code.proofs.Routines.InputOutput.{computes}
 use Rattle.shadow_space.specs.TwoLevel.Code.{two_level_write}
 use Rattle.shadow_space.specs.Form.{IsWriteRoutine}
 use Rattle.shadow_space.specs.TwoLevel.Tables.{two_level_entry, AreTablesGood}
 use Rattle.shadow_space.proofs.TwoLevel.Writing.{two_level_writes}
-use Rattle.flat_routines.specs.Shape.{HasShape}
-use Rattle.flat_routines.proofs.Shape.{more}
+use Rattle.flat_code.specs.Routines.Shape.{HasShape}
+use Rattle.flat_code.proofs.Routines.Shape.{more}
 use Rattle.shadow_space.proofs.Shapes.{two_level_write_shape}
 use Rattle.shadow_space.proofs.two_levels.two_level.TwoLevelShadowForm.write_entry.Goals as goal
 

@@ -1,0 +1,7 @@
+pub mod Memory
+pub mod Spaces
+pub mod State
+pub mod Calls
+pub mod Meaning
+pub mod Words
+pub mod Routines

@@ -1,5 +1,0 @@
-use Rattle.flat_routines.proofs.Objects.Lives.{born}
-use Rattle.flat_routines.proofs.laws.objects.objects_are_born.Goals as goal
-
-pub returns : goal.returns
-returns c = λ g k k' old new lock m m' h st. born g k k' h old new lock m m' st

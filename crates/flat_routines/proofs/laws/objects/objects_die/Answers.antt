@@ -1,5 +1,0 @@
-use Rattle.flat_routines.proofs.Objects.Lives.{died}
-use Rattle.flat_routines.proofs.laws.objects.objects_die.Goals as goal
-
-pub returns : goal.returns
-returns c = λ g k old new lock m m' h st. died g k h old new lock m m' st

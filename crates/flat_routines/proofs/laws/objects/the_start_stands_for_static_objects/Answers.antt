@@ -1,5 +1,0 @@
-use Rattle.flat_routines.proofs.Objects.Starts.{starts}
-use Rattle.flat_routines.proofs.laws.objects.the_start_stands_for_static_objects.Goals as goal
-
-pub returns : goal.returns
-returns c = starts

@@ -20,7 +20,7 @@ use Rattle.source_meaning.specs.Actions.{place_or_stop, verdict_on}
 use Rattle.source_meaning.specs.Structures.{moved_into, contents_of, with_contents, taken, take_value}
 use Rattle.source_meaning.proofs.Naming.{IsNoStructure}
 use Rattle.source_meaning.proofs.ValidNames.{both}
-use Rattle.tac_ir.specs.Costs.{entries_of, stores_of, parts_of, updates_of, checks_of, handed_bytes}
+use Rattle.tac_ir.specs.Costs.{entries_of, stores_of, parts_of, updates_of, checks_of, handing}
 use Rattle.c_lower.specs.Values.{mode_for, count}
 
 -- what is left of an expression for what follows: it pays for a conversion and three units more, and of a structure for
@@ -124,10 +124,10 @@ store_cost Void = omega arith
 store_cost (Structure n) = omega arith
 store_cost (Array n) = omega arith
 
--- what is left of an argument or a result once its contents are found, beside a unit for each byte of them
+-- what is left of an argument or a result once its contents are found, beside what pays for handing them on
 
 abbrev pub taken_left : Kind → ℕ
-taken_left (Structure n) = 1
+taken_left (Structure n) = 0
 taken_left _ = 3
 
 taken_size : (size source : ℕ) (from : ObjectState) → (contents_of size source from).size ≡ size
@@ -135,7 +135,7 @@ unfolding moved_into new_object
 taken_size size source from = refl
 
 abbrev PaysBy : State → Outcome Rvalue → Type 0
-PaysBy s (Gives w s') = s.work + handed_bytes w ≤ s'.work
+PaysBy s (Gives w s') = 4 * s.work + handing w ≤ 4 * s'.work + 1
 PaysBy s (Ended e s') = Unit {0}
 PaysBy s (Paused s') = Unit {0}
 
@@ -151,7 +151,7 @@ take_pays None size line v s = place_pays (verdict_on false size v s.objects) si
 take_pays (Some c) size line v s = omega (arith, taken_size size v.word c)
 
 pub taken_pays : (size line : ℕ) (v : Rvalue) (s : State) (w : Rvalue) (s' : State)
-    → take_value (Structure size) line v s ≡ Gives w s' → s.work + handed_bytes w ≤ s'.work
+    → take_value (Structure size) line v s ≡ Gives w s' → 4 * s.work + handing w ≤ 4 * s'.work + 1
 taken_pays size line v s w s' e = subst (PaysBy s) e (take_pays v.contents size line v.value s)
 
 abbrev pub left : Expression → ℕ

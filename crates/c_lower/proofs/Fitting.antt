@@ -1,7 +1,7 @@
 -- What instructions are given fits them: in good states values are of their kinds, and what is named is there.
 use Rattle.std.proofs.Common.{◌≡◌, ℕ, zero, suc, ◌<◌, ◌≤◌, ◌^◌, List, [], ◌∷◌, Option, Some, None, Bool, true}
 use Rattle.std.proofs.Common.{false}
-use Rattle.std.proofs.Common.{refl, sym, ap, ◌∙◌, subst, arith, eq-eqb, eqb-true, le-leb, lt-ltb}
+use Rattle.std.proofs.Common.{refl, sym, ap, ◌∙◌, subst, arith, eq-eqb, eqb-true, lt-ltb}
 use Rattle.std.specs.Prelude.{◌&&◌, ◌||◌, ◌==◌, not, length, slice_get}
 use Rattle.std.specs.List.{list_all}
 use Rattle.addr_map.specs.Places.{function_address}
@@ -39,7 +39,7 @@ use Rattle.tac_ir.specs.declared.function.CodeFunction.{CodeFunction}
 use Rattle.tac_ir.specs.declared.function.StaticData.{StaticData}
 use Rattle.tac_ir.specs.declared.function.Tac.{Tac}
 use Rattle.tac_ir.specs.Accesses.{is_place}
-use Rattle.tac_ir.specs.Fitting.{is_word, has_no_tag, is_of_type, is_scalar_of, is_plain_word, has_bytes, is_passed}
+use Rattle.tac_ir.specs.Fitting.{is_word, has_no_tag, is_of_type, is_scalar_of, is_plain_word, is_structure_of, is_passed}
 use Rattle.tac_ir.specs.Fitting.{are_passed, is_written, is_in_place, is_held, is_update_of, is_type, taken_by}
 use Rattle.tac_ir.specs.Fitting.{fit_type}
 use Rattle.tac_ir.specs.Fitting.{is_int, is_printed, each_printed, are_printed}
@@ -97,17 +97,17 @@ module _ (fc : ℕ) (few : function_address fc ≤ 2 ^ 64) where
       → is_held (Some k) v ≡ true
   held_fits k v objects h = scalar_fits k v h.structure h.word
 
-  taken_has_bytes : (n : ℕ) (c : Option ObjectState) (v : Value) (objects : Objects) → TakenIs fc n c v objects
-      → has_bytes c n v.word ≡ true
-  taken_has_bytes n None v objects h = absurd h
-  taken_has_bytes n (Some c) v objects h = le-leb _ _ h.room
+  taken_fits : (n : ℕ) (c : Option ObjectState) (v : Value) (objects : Objects) → TakenIs fc n c v objects
+      → is_structure_of c n v.word ≡ true
+  taken_fits n None v objects h = absurd h
+  taken_fits n (Some c) v objects h = both_true (eq-eqb _ _ h.whole) (eq-eqb _ _ h.first)
 
   -- of a kind that is not `void`
   pub passed_fits : (kind : Kind) (v : Rvalue) → (kind ≡ Void → ⊥) → (objects : Objects)
       → ArgumentIs fc kind v objects → is_passed kind v ≡ true
   passed_fits Void v valued objects h = absurd (valued refl)
   passed_fits (OfScalar k) v valued objects h = scalar_fits k v h.structure h.word
-  passed_fits (Structure n) v valued objects h = taken_has_bytes n v.contents v.value objects h.structure
+  passed_fits (Structure n) v valued objects h = taken_fits n v.contents v.value objects h.structure
   passed_fits (Array n) v valued objects h = plain_word_fits v h.structure h.word
 
   pub arguments_fit : (kinds : List Kind) (vs : List Rvalue) (objects : Objects) → list_all is_value kinds ≡ true

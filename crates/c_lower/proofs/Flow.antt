@@ -35,7 +35,7 @@ use Rattle.tac_ir.specs.Meaning.{if_there, variables_in, blocks_in, objects_in, 
 use Rattle.tac_ir.specs.Meaning.{act_at, fits}
 use Rattle.tac_ir.specs.Fitting.{have_no_homes}
 use Rattle.tac_ir.specs.Accesses.{only_if}
-use Rattle.tac_ir.specs.Costs.{handed_bytes, heavier}
+use Rattle.tac_ir.specs.Costs.{handing, heavier}
 use Rattle.c_lower.specs.Placed.{HasAt}
 use Rattle.c_lower.specs.Statements.{Exits, HasNumber, LowersEntry, LowersLeaving, in_loop, in_switch}
 use Rattle.c_lower.specs.Statements.{LowersLabels, any_default}
@@ -61,12 +61,12 @@ LeftBy Broken temps s = Unit {0}
 LeftBy Continued temps s = Unit {0}
 LeftBy (Returned v) temps s = temps 0 ≡ v
 
--- what a completion leaves for what follows: of a value that is returned a unit more for each byte that it hands on
+-- what a completion leaves for what follows: of a value that is returned also what pays for handing it on
 abbrev pub with_result : ℕ → Completion → ℕ
 with_result n Normal = n
 with_result n Broken = n
 with_result n Continued = n
-with_result n (Returned v) = n + handed_bytes v
+with_result n (Returned v) = n + handing v
 
 less_with_result : (n m : ℕ) → n ≤ m → (f : Completion) → with_result n f ≤ with_result m f
 less_with_result n m le Normal = le
@@ -427,7 +427,7 @@ module _ {g : Setting} {t : Tac} {limit u : ℕ} {frames : List Frame} where
       goes_from {d = e} {k1 = k + 2} {s1 = s} 1 (block_left g t u frames n b temps k s _ _ tr.2)
       (omega arith) (omega arith) (goes_done (omega arith) refl refl tt)
   leave_goes e (Returned v) n b y x literals vars temps k s tr p =
-      goes_from {d = e + handed_bytes v} {k1 = k + 2} {s1 = s} 1
+      goes_from {d = e + handing v} {k1 = k + 2} {s1 = s} 1
       (block_left g t u frames n b temps k s _ _ tr.3)
       (omega arith) (omega arith) (goes_done (omega arith) refl refl p)
 

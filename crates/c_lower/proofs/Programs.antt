@@ -1,6 +1,6 @@
 -- The code of a program does what the program means.
 use Rattle.std.proofs.Common.{◌≡◌, ℕ, zero, suc, ◌+◌, ◌-◌, ◌*◌, ◌<◌, ◌≤◌, List, [], ◌∷◌, ◌++◌, Option, Some, None}
-use Rattle.std.proofs.Common.{◌^◌, Bool, true, false, refl, sym, ap, ◌∙◌, subst, arith, eq-eqb, le-leb}
+use Rattle.std.proofs.Common.{◌^◌, Bool, true, false, refl, sym, ap, ◌∙◌, subst, arith, eq-eqb}
 use Rattle.std.proofs.lemmas.List.{length-map}
 use Rattle.std.specs.Prelude.{slice_get, map, length, nat_lt, nat_le, if◌then◌else◌}
 use Rattle.std.specs.List.{list_all}
@@ -44,7 +44,7 @@ use Rattle.source_meaning.specs.Good.{Context, IsGood, ArgumentIs, ArgumentsAre,
 use Rattle.source_meaning.specs.Good.{IsSetUp, SetsUpBy}
 use Rattle.source_meaning.proofs.ActionsAct.{acts_set_up}
 use Rattle.source_meaning.proofs.Working.{counts_set_up}
-use Rattle.tac_ir.specs.Costs.{handed_bytes, fourfold, heavier}
+use Rattle.tac_ir.specs.Costs.{handing, fourfold, heavier}
 use Rattle.source_meaning.specs.Places.{statics_first}
 use Rattle.source_meaning.proofs.SureFlow.{row_sure}
 use Rattle.source_meaning.proofs.Naming.{FunctionsName}
@@ -215,7 +215,7 @@ zero_fits : (kind : Kind) → is_passed kind (zero_of kind) ≡ true
 zero_fits Void = refl
 zero_fits (OfScalar (Integer t)) = eq-eqb _ _ (fit_zero t)
 zero_fits (OfScalar Pointer) = refl
-zero_fits (Structure n) = le-leb _ _ (let e = fresh_size Automatic 0 n in omega arith)
+zero_fits (Structure n) = both_true (eq-eqb _ _ (fresh_size Automatic 0 n)) refl
 zero_fits (Array n) = refl
 
 -- where nothing is given, it is 0
@@ -242,11 +242,11 @@ after_fits fc few kind sc s r after nothing completion s1 is =
     completion_fits fc few kind completion s1.objects h.1
     (λ void. subst CompletesWithZero is ((nothing void).by s))
 
-handed_zero : (kind : Kind) → handed_bytes (zero_of kind) ≡ contents_size kind
-handed_zero Void = refl
-handed_zero (OfScalar k) = refl
-handed_zero (Structure n) = fresh_size Automatic 0 n
-handed_zero (Array n) = refl
+zero_pays : (kind : Kind) → handing (zero_of kind) ≤ 1 + 4 * contents_size kind
+zero_pays Void = omega arith
+zero_pays (OfScalar k) = omega arith
+zero_pays (Structure n) = omega (arith, fresh_size Automatic 0 n)
+zero_pays (Array n) = omega arith
 
 module _ (g : Setting) (t : Tac) (limit : ℕ) (q : Caller) (frames : List Frame) where
   called_from : (c d back back' over over' : ℕ) (x x1 : Stage) (k k1 : ℕ) (s s1 : State) (o : Outcome Rvalue) (j : ℕ)
@@ -267,12 +267,12 @@ module _ (g : Setting) (t : Tac) (limit : ℕ) (q : Caller) (frames : List Frame
       (F : Unit {0} → State → Stage) (R : Run Rvalue) → ActsBy k s o o' → s.work + 1 ≤ (state_of o).work
       → SetsUpBy inner old o → HomedBy all vs o
       → ((s' : State) (k' : ℕ) → s'.turns ≡ s.turns → IsSetUp inner old s' → Homed all vs s'.frame
-      → Called g t limit 0 4 0 q frames (F tt (at_work k' s')) k' s' (R s'))
-      → Called g t limit 0 8 4 q frames (came (fourfold k o') F) k s (on o (λ _. R))
+      → Called g t limit 0 3 0 q frames (F tt (at_work k' s')) k' s' (R s'))
+      → Called g t limit 0 7 4 q frames (came (fourfold k o') F) k s (on o (λ _. R))
   set_up_goes inner all vs old k s (Gives a s') o' F R h one up homed next =
       let e = h.2 in
       let k1 = h.0 + 3 * (h.0 - k) in
-      called_from 0 0 4 8 0 4 _ _ k k1 s s' (R s') 0 (ap (λ o. came (fourfold k o) F) h.1) (omega (arith, e.turns))
+      called_from 0 0 3 7 0 4 _ _ k k1 s s' (R s') 0 (ap (λ o. came (fourfold k o) F) h.1) (omega (arith, e.turns))
       (omega (arith, e.work, one)) (omega (arith, e.work, one)) (next s' k1 e.turns up homed)
   set_up_goes inner all vs old k s (Ended x s') o' F R h one up homed next =
       let e = h.2 in (
@@ -291,14 +291,14 @@ module _ (g : Setting) (t : Tac) (limit : ℕ) (q : Caller) (frames : List Frame
       (hr : at_node t f ret ≡ Some (tac.Return 0)) (gives : result_of g (type_of (function_in t f)) ≡ result) where
     returned : (temps : Temps) (k : ℕ) (s : State) (v : Rvalue) → temps 0 ≡ v → is_passed result v ≡ true
         → run (step g t) 1 (Stands f ret temps frames (at_work k s))
-        ≡ given_to frames v (at_work (k + 3 + handed_bytes v) s)
+        ≡ given_to frames v (at_work (k + 3 + handing v) s)
     returned temps k s v e fit = ap (λ j. act_at g t j f temps frames (at_work k s)) hr
         ∙ only_opens _ (ap (λ kind. is_passed kind (temps 0)) gives ∙ ap (is_passed result) e ∙ fit)
-        ∙ ap (λ z. given_to frames z (at_work (k + 3 + handed_bytes z) s)) e
+        ∙ ap (λ z. given_to frames z (at_work (k + 3 + handing z) s)) e
 
     ends : (j left : ℕ) (x x1 x2 : Stage) (k k1 k2 : ℕ) (s s1 s2 : State) → run (step g t) j x1 ≡ x2
-        → s2.turns ≡ s1.turns → k2 + 4 + 8 * s1.work ≤ k1 + left + 8 + 8 * s2.work → Reached g t 0 left x k s s1 x1 k1
-        → Reached g t 8 4 x k s s2 x2 k2
+        → s2.turns ≡ s1.turns → k2 + 3 + 8 * s1.work ≤ k1 + left + 8 + 8 * s2.work → Reached g t 0 left x k s s1 x1 k1
+        → Reached g t 8 3 x k s s2 x2 k2
     ends j left x x1 x2 k k1 k2 s s1 s2 e turns work r = record {
       steps = r.steps + j;
       comes = run_add (step g t) r.steps j x ∙ ap (run (step g t) j) r.comes ∙ e;
@@ -308,41 +308,41 @@ module _ (g : Setting) (t : Tac) (limit : ℕ) (q : Caller) (frames : List Frame
 
     zero_given : (x : Stage) (k : ℕ) (s s1 : State) (temps : Temps) (k1 : ℕ)
         → Reached g t 0 0 x k s s1 (Stands f end temps frames (at_work k1 s1)) k1
-        → Called g t limit 8 4 0 q frames x k s (on (make_zero result s1) (λ v. change (back_to q) >> done v))
+        → Called g t limit 8 3 0 q frames x k s (on (make_zero result s1) (λ v. change (back_to q) >> done v))
     zero_given x k s s1 temps k1 r =
         let v = zero_of result in
         let size = contents_size result in
         let made = k1 + 1 + size + 3 * (k1 + 1 + size - (k1 + 1)) in
         let s2 : State = record s1 { work = s1.work + size } in (
           s2,
-          made + 3 + handed_bytes v,
+          made + 3 + handing v,
           refl,
-          ends 2 0 x _ _ k k1 (made + 3 + handed_bytes v) s s1 s2
+          ends 2 0 x _ _ k k1 (made + 3 + handing v) s s1 s2
               (ap (λ j. step g t (act_at g t j f temps frames (at_work k1 s1))) he
               ∙ returned (with_temp temps 0 v) made s1 v (put_same temps 0 v) (zero_fits result)) refl
-              (omega (arith, handed_zero result)) r,
+              (omega (arith, zero_pays result)) r,
         )
 
     given : (completion : Completion) (x : Stage) (k : ℕ) (s s1 : State) (temps : Temps) (k1 : ℕ)
         → HasPassed result completion → LeftBy completion temps s1 → Reached g t 0 (with_result 0 completion) x k s s1
         (Stands f (exit_of (function_exits end ret) completion) temps frames (at_work k1 s1)) k1
-        → Called g t limit 8 4 0 q frames x k s
+        → Called g t limit 8 3 0 q frames x k s
         (on (returned_by result completion s1) (λ v. change (back_to q) >> done v))
     given Normal x k s s1 temps k1 fit p r = zero_given x k s s1 temps k1 r
     given Broken x k s s1 temps k1 fit p r = zero_given x k s s1 temps k1 r
     given Continued x k s s1 temps k1 fit p r = zero_given x k s s1 temps k1 r
     given (Returned v) x k s s1 temps k1 fit p r = (
       s1,
-      k1 + 3 + handed_bytes v,
+      k1 + 3 + handing v,
       refl,
-      ends 1 (0 + handed_bytes v) x _ _ k k1 (k1 + 3 + handed_bytes v) s s1 s1 (returned temps k1 s1 v p fit) refl
+      ends 1 (0 + handing v) x _ _ k k1 (k1 + 3 + handing v) s s1 s1 (returned temps k1 s1 v p fit) refl
           (omega arith) r,
     )
 
     end_goes : (x : Stage) (k : ℕ) (s : State) (o : Outcome Completion)
         → ((completion : Completion) (s1 : State) → o ≡ Gives completion s1 → HasPassed result completion)
         → Completes g t limit 0 0 f frames (function_exits end ret) x k s o
-        → Called g t limit 8 4 0 q frames x k s
+        → Called g t limit 8 3 0 q frames x k s
         (on o (λ completion. returned_by result completion >>= (λ v. change (back_to q) >> done v)))
     end_goes x k s (Gives completion s1) fit h = let b = h.by in
         given completion x k s s1 b.0 b.1 (fit completion s1 refl) b.2 b.3
@@ -434,7 +434,7 @@ module _ (p : Program) (budgets : BudgetSizes) (mapped : AreMapped (setting_of p
       (Some fn)) fn c → FunctionNames u fn
       → IsValidFunction p fn → (around : Scope) → IsGood (within_program around) s
       → ArgumentsAre (length u.functions) (kinds_in fn.parameters) vs s.objects → limit < n + s.turns
-      → Called g t limit 0 8 4 (caller s) frames
+      → Called g t limit 0 7 4 (caller s) frames
       (came (heavier (set_up g (header_of_code c) vs line) (at_work k s)) (λ _ z. Stands f c.entry no_temps frames z)) k
       s (enter_begun (env_of p.functions g limit n (all_of fn)) fn vs line s)
   begun_runs n f fn c vs line frames k s callers is low named ok around good arguments lt =
@@ -464,7 +464,7 @@ module _ (p : Program) (budgets : BudgetSizes) (mapped : AreMapped (setting_of p
       let types : type_of (function_in t f) ≡ fn.type_number = ap type_of is
       ∙ ap (λ (h : Header). h.type_number) low.header in
       let inside : Inside base g.sizes env = inside_good p budgets mapped (valid_names p valid) limit n fn in
-      called_from g t limit q frames 0 0 8 8 4 4 _
+      called_from g t limit q frames 0 0 7 7 4 4 _
       (came (heavier (set_up g (header_of fn) vs line) (at_work k s)) F) k k s s _ 0
       (ap (λ h. came (heavier (set_up g h vs line) (at_work k s)) F) low.header) (omega arith) (omega arith)
       (omega arith)
@@ -475,7 +475,7 @@ module _ (p : Program) (budgets : BudgetSizes) (mapped : AreMapped (setting_of p
       (set_up_by u fn named g g.sizes refl mapped around vs line s good arguments) (set_up_homed fn g vs line s)
       (λ s2 k2 e2 up homed.
       let s3 : State = record s2 { work = s2.work + 1 } in
-      called_from g t limit q frames 0 8 4 4 0 0 _ _ k2 k2 s2 s3
+      called_from g t limit q frames 0 8 3 3 0 0 _ _ k2 k2 s2 s3
       (on (in_order (each_of env fn.body) s3)
       (λ completion. returned_by result completion >>= (λ v. change (back_to q) >> done v))) 0 refl (omega arith)
       (omega arith) (omega arith)
@@ -496,7 +496,7 @@ module _ (p : Program) (budgets : BudgetSizes) (mapped : AreMapped (setting_of p
   -- function is there.
   call_by : (w c back n f : ℕ) (vs : List Rvalue) (line : ℕ) (frames : List Frame) (x : Stage) (k : ℕ) (s : State)
       (of : Option Function) (oc : Option CodeFunction) → AllCallsRun n → (of ≡ None → w ≤ c) → w ≤ c + 4
-      → w + back ≤ c + 8
+      → w + back ≤ c + 7
       → step g t x ≡ called_at g oc f vs line frames (at_work (k + w) s) → seen x ≡ moment_at (at_work k s) [] None
       → function_in t f ≡ oc → LowersAt t.texts (literals_of p.statics) (result_in g.results of)
       (height_in p.statics f of) of oc
@@ -530,7 +530,7 @@ module _ (p : Program) (budgets : BudgetSizes) (mapped : AreMapped (setting_of p
         ltb-false s.turns limit h,
       )
       by_turn true h =
-          called_from g t limit (caller s) frames c 0 8 back 4 0 x _ k (k + w) s (begun s) _ 1 e (omega arith)
+          called_from g t limit (caller s) frames c 0 7 back 4 0 x _ k (k + w) s (begun s) _ 1 e (omega arith)
           (omega (arith, pays)) (omega (arith, few))
           (begun_runs n f fn code vs line frames (k + w) (begun s) callers is low named ok around good given
           (omega (arith, lt)))
@@ -539,7 +539,7 @@ module _ (p : Program) (budgets : BudgetSizes) (mapped : AreMapped (setting_of p
   calls_run zero around c f vs line frames x k s h good arguments lt =
       (x, k, h.seen_now, record { steps = 0; comes = refl; turns = omega arith; work = omega arith }, omega (arith, lt))
   calls_run (suc n) around c f vs line frames x k s h good arguments lt =
-      call_by c c 8 n f vs line frames x k s (function_at p.functions f) (function_in t f) (calls_run n)
+      call_by c c 7 n f vs line frames x k s (function_at p.functions f) (function_in t f) (calls_run n)
       (λ e. omega arith) (omega arith) (omega arith) h.steps h.seen_now
       refl (lowers f) (found_names u p.functions (valid_names p valid).functions f) (functions_valid p valid f)
       (signature_in u.functions f) (signature_found u.types p.functions f) arguments around good lt
@@ -549,11 +549,11 @@ module _ (p : Program) (budgets : BudgetSizes) (mapped : AreMapped (setting_of p
       → (function_at p.functions f ≡ None → ⊥) → Calls g t limit 4 f vs line [] x k s → (around : Scope)
       → IsGood (within_program around) s
       → ArgumentsAre (length u.functions) (signature_in u.functions f).parameters vs s.objects → limit < n + s.turns
-      → Called g t limit 0 4 0 (caller s) [] x k s (calls p.functions g limit n f vs line s)
+      → Called g t limit 0 3 0 (caller s) [] x k s (calls p.functions g limit n f vs line s)
   first_runs zero f vs line x k s there h around good arguments lt =
       (x, k, h.seen_now, record { steps = 0; comes = refl; turns = omega arith; work = omega arith }, omega (arith, lt))
   first_runs (suc n) f vs line x k s there h around good arguments lt =
-      call_by 4 0 4 n f vs line [] x k s (function_at p.functions f) (function_in t f) (calls_run n)
+      call_by 4 0 3 n f vs line [] x k s (function_at p.functions f) (function_in t f) (calls_run n)
       (λ e. absurd (there e)) (omega arith) (omega arith) h.steps h.seen_now
       refl (lowers f) (found_names u p.functions (valid_names p valid).functions f) (functions_valid p valid f)
       (signature_in u.functions f) (signature_found u.types p.functions f) arguments around good lt
@@ -562,7 +562,7 @@ module _ (p : Program) (budgets : BudgetSizes) (mapped : AreMapped (setting_of p
 
 module _ (g : Setting) (t : Tac) (limit : ℕ) where
   meets_by : (o : Outcome Rvalue) (q : Caller) (s : State) → s.work ≡ 0 → s.turns ≡ 0
-      → Called g t limit 0 4 0 q [] (Begins s) 0 s o
+      → Called g t limit 0 3 0 q [] (Begins s) 0 s o
       → (m : ℕ) × Meets 8 (moment_of o) (seen (run (step g t) m (Begins s)))
   meets_by (Gives v s') q s w z h =
       let r = h.3 in
@@ -635,7 +635,7 @@ module _ (p : Program) (budgets : BudgetSizes) (mapped : AreMapped (setting_of p
   main_there none = function_there p.functions p.main (main_number p valid)
       (ap (function_at p.functions) (sym main) ∙ none)
 
-  started : (limit : ℕ) → Called (setting_of p budgets) t limit 0 4 0 (caller first) [] (Begins first) 0 first
+  started : (limit : ℕ) → Called (setting_of p budgets) t limit 0 3 0 (caller first) [] (Begins first) 0 first
       (outcome_in limit)
   started limit =
       let names = valid_names p valid in

@@ -53,7 +53,7 @@ use Rattle.tac_ir.specs.declared.function.Tac.{Tac}
 use Rattle.tac_ir.specs.Stage.{Temps, Frame, Stage, Stands, came}
 use Rattle.tac_ir.specs.Accesses.{only_if, is_live_at, moved_from, is_home}
 use Rattle.tac_ir.specs.Fitting.{is_written}
-use Rattle.tac_ir.specs.Costs.{parts_of, handed_bytes, fourfold, heavier}
+use Rattle.tac_ir.specs.Costs.{parts_of, handing, fourfold, heavier}
 use Rattle.tac_ir.specs.Meaning.{act_at}
 use Rattle.c_lower.specs.Placed.{Placed}
 use Rattle.c_lower.specs.Values.{LowersExpression, LowersArgument}
@@ -114,7 +114,7 @@ module _ (t : Tac) (n : ℕ) (env : Env) (sc : Context) (sure : Calling sc env)
   pub result_at : (e : Expression) (n0 n1 : ℕ) (temps : Temps) (k : ℕ) (s : State)
       → LowersArgument (placed t u literals vars) e 0 n0 n1 → is_valid sc.scope e ≡ true → IsGood sc s
       → env.limit < n + s.turns
-      → GoesLeaving env.setting t env.limit 0 (λ w. taken_left (kind_of e) + handed_bytes w) u frames (λ v. n1)
+      → GoesLeaving env.setting t env.limit 0 (λ w. taken_left (kind_of e) + handing w) u frames (λ v. n1)
       (ValueIn 0 temps) (Stands u n0 temps frames (at_work k s)) k s
       (argument (kind_of e) (line_of e) (evaluate env e) s)
   result_at e n0 n1 temps k s tr ok good lt = argument_at t n env sc sure calls stays u frames literals vars declared e

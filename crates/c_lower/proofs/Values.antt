@@ -62,7 +62,7 @@ use Rattle.tac_ir.specs.declared.key.Key.{Key}
 use Rattle.tac_ir.specs.declared.function.Tac.{Tac}
 use Rattle.tac_ir.specs.Stage.{Temps, with_temp, gathered, Frame, Waits, Stage, Stands, Over, came, seen}
 use Rattle.tac_ir.specs.Accesses.{admitted, moved_from, is_through}
-use Rattle.tac_ir.specs.Costs.{entries_of, stores_of, updates_of, checks_of, bytes_in, handed_bytes, heavier}
+use Rattle.tac_ir.specs.Costs.{entries_of, stores_of, updates_of, checks_of, contents_handing, handing, heavier}
 use Rattle.tac_ir.specs.Meaning.{keys_of, function_in, if_there, text_in, at_node, keyed, given_in}
 use Rattle.tac_ir.specs.Meaning.{given_to, called, act_at, step as advance}
 use Rattle.tac_ir.proofs.Turns.{acts_as}
@@ -144,7 +144,7 @@ module _ (g : Setting) (t : Tac) (limit : ℕ) where
   CallsRun sc called_as n = (c f : ℕ) (vs : List Rvalue) (line : ℕ) (frames : List Frame) (x : Stage) (k : ℕ)
       (s : State) → Calls c f vs line frames x k s → IsGood sc s
       → ArgumentsAre (function_count sc) (taking sc f) vs s.objects → limit < n + s.turns
-      → Called c 8 0 (caller s) frames x k s (called_as f vs line s)
+      → Called c 7 0 (caller s) frames x k s (called_as f vs line s)
 
 module _ {g : Setting} {t : Tac} {limit u : ℕ} {frames : List Frame} where
   -- 1 or 0, by a test
@@ -171,9 +171,9 @@ module _ {g : Setting} {t : Tac} {limit u : ℕ} {frames : List Frame} where
   -- back from a call
   back_by : (c n1 d : ℕ) (before temps : Temps) (x : Stage) (k : ℕ) (s : State) (o : Outcome Rvalue)
       → KeepsBelow d before temps
-      → Called g t limit c 8 0 (caller s)
+      → Called g t limit c 7 0 (caller s)
       (Waits (record { function = u; node = n1; place = d; caller = caller s; temps = temps }) ∷ frames) x k s o
-      → Goes g t limit c 8 u frames (λ v. n1) (ValueIn d before) x k s o
+      → Goes g t limit c 7 u frames (λ v. n1) (ValueIn d before) x k s o
   back_by c n1 d before temps x k s (Gives v s') below h =
       let e = h.2 in
       let r = h.3 in
@@ -205,7 +205,7 @@ module _ {g : Setting} {t : Tac} {limit u : ℕ} {frames : List Frame} where
         → advance g t x ≡ came (choose q (done f) (stop (BadCall line)) (at_work (k + 8) s))
         (λ f z. called g t f vs line
         (Waits (record { function = u; node = n1; place = d; caller = caller s; temps = temps }) ∷ frames) z)
-        → Goes g t limit 8 8 u frames (λ v. n1) (ValueIn d before) x k s
+        → Goes g t limit 8 7 u frames (λ v. n1) (ValueIn d before) x k s
         (on (choose q (done f) (stop (BadCall line)) s) (λ f. env.call f vs line))
     through_if word f true is e =
         let typed = sure.typed f type_number (both _ _ is).1 in
@@ -219,7 +219,7 @@ module _ {g : Setting} {t : Tac} {limit u : ℕ} {frames : List Frame} where
         → advance g t x ≡ came (callee_by env.setting.functions type_number word tag line (at_work (k + 8) s))
         (λ f z. called g t f vs line
         (Waits (record { function = u; node = n1; place = d; caller = caller s; temps = temps }) ∷ frames) z)
-        → Goes g t limit 8 8 u frames (λ v. n1) (ValueIn d before) x k s
+        → Goes g t limit 8 7 u frames (λ v. n1) (ValueIn d before) x k s
         (on (callee_by env.setting.functions type_number word tag line s) (λ f. env.call f vs line))
     through_goes word Untagged e = goes_from 1 e (omega arith) (omega arith)
         (goes_over {c = 0} {k = k + 8} {s = s} {s' = s} refl refl)
@@ -227,21 +227,21 @@ module _ {g : Setting} {t : Tac} {limit u : ℕ} {frames : List Frame} where
         (goes_over {c = 0} {k = k + 8} {s = s} {s' = s} refl refl)
     through_goes word (OfFunction f) e = through_if word f _ refl e
 
-  -- the contents of a structure are taken; what is counted for its bytes pays for handing them on
+  -- the contents of a structure are taken; half of what is counted for its bytes pays for handing them on
   taking_runs : (fc : ℕ) (kind : Kind) (line d n0 n1 : ℕ) (before temps : Temps) (k : ℕ) (s : State) (v : Rvalue)
       (literals : List Bool) (vars : List Variable) → LowersTaking (placed t u literals vars) kind line d n0 n1
       → temps d ≡ v
       → KeepsBelow d before temps → ValueIs fc kind v s.objects
-      → GoesLeaving g t limit (left_by kind true) (λ w. taken_left kind + handed_bytes w) u frames (λ v. n1)
+      → GoesLeaving g t limit (left_by kind true) (λ w. taken_left kind + handing w) u frames (λ v. n1)
       (ValueIn d before) (Stands u n0 temps frames (at_work k s)) k s (take_value kind line v s)
   taking_runs fc Void line d n0 n1 before temps k s v literals vars tr e below h =
-      let none = ap bytes_in h.structure in goes_at tr
+      let none = ap contents_handing h.structure in goes_at tr
       (goes_done (omega arith) refl refl (record { value = e; below = below }))
   taking_runs fc (OfScalar c) line d n0 n1 before temps k s v literals vars tr e below h =
-      let none = ap bytes_in h.structure in goes_at tr
+      let none = ap contents_handing h.structure in goes_at tr
       (goes_done (omega arith) refl refl (record { value = e; below = below }))
   taking_runs fc (Array m) line d n0 n1 before temps k s v literals vars tr e below h =
-      let none = ap bytes_in h.structure in goes_at tr
+      let none = ap contents_handing h.structure in goes_at tr
       (goes_done (omega arith) refl refl (record { value = e; below = below }))
   taking_runs fc (Structure m) line d n0 n1 before temps k s v literals vars tr e below h =
       let F : Rvalue → State → Stage = given_in u n1 temps d frames in
@@ -758,8 +758,8 @@ module _ (t : Tac) (n : ℕ) (env : Env) (sc : Context) (sure : Calling sc env)
         let does = ap (λ j. act_at g t j u t1 frames (at_work k1 s1)) tr.2
         ∙ only_opens _ (ap (fit_call (function_in t f)) p1.values ∙ call_fits f vs s1.objects taken)
         ∙ ap (λ l. called g t f l line (w ∷ frames) (at_work (k1 + 6) s1)) p1.values in
-        goes_less {b = 10} 6 (omega arith)
-        (goes_frame 2 6 8 (back_by 6 n1 d temps t1 _ k1 s1 _ p1.below
+        goes_less {b = 9} 6 (omega arith)
+        (goes_frame 2 6 7 (back_by 6 n1 d temps t1 _ k1 s1 _ p1.below
         (calls 6 f vs line (w ∷ frames) _ k1 s1 (record { steps = does; seen_now = refl }) lv1.good
         taken (omega (arith, le1, lt))))))))
     node_runs (call_through type_number a args) kind line d n0 n1 temps k s tr ok good lt =
@@ -783,8 +783,8 @@ module _ (t : Tac) (n : ℕ) (env : Env) (sc : Context) (sure : Calling sc env)
         ∙ ap (λ l. came (callee g.functions type_number x.value line z)
         (λ f z. called g t f l line (w ∷ frames) z)) p2.values
         in
-        goes_less {b = 11} 6 (omega arith)
-        (goes_frame 3 8 8
+        goes_less {b = 10} 6 (omega arith)
+        (goes_frame 3 8 7
         (through_goes n sc env sure refl calls vs line n1 d temps t2 _ k2 s2 lv2.good type_number taken refl (omega
         (arith, le1, le2, lt))
         (λ i l. p2.below i (omega arith) ∙ p1.below i l) x.value.word x.value.tag does))))))
@@ -911,7 +911,7 @@ module _ (t : Tac) (n : ℕ) (env : Env) (sc : Context) (sure : Calling sc env)
         → LowersExpression (placed t u literals vars) e d n0 j → LowersTaking (placed t u literals vars) (kind_of e)
         (line_of e) d j n1
         → is_valid sc.scope e ≡ true → IsGood sc s → limit < n + s.turns
-        → GoesLeaving g t limit 0 (λ w. taken_left (kind_of e) + handed_bytes w) u frames (λ v. n1) (ValueIn d temps)
+        → GoesLeaving g t limit 0 (λ w. taken_left (kind_of e) + handing w) u frames (λ v. n1) (ValueIn d temps)
         (Stands u n0 temps frames (at_work k s)) k s (argument (kind_of e) (line_of e) (evaluate env e) s)
     argument_at (expression kind line node) d n0 j n1 temps k s tr take ok good lt =
         goes_sure _ (after (expression kind line node) ok _ good)

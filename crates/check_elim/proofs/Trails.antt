@@ -29,7 +29,7 @@ use Rattle.tac_ir.specs.declared.function.CodeFunction.{CodeFunction}
 use Rattle.tac_ir.specs.declared.function.Tac.{Tac}
 use Rattle.tac_ir.specs.Accesses.{only_if, can_check}
 use Rattle.tac_ir.specs.Changes.{ends_lives, KeepsLivesAt}
-use Rattle.tac_ir.specs.Costs.{cost, spent, heavier, handed_bytes, first_call}
+use Rattle.tac_ir.specs.Costs.{cost, spent, heavier, handing, first_call}
 use Rattle.tac_ir.specs.Edges.{LeadsTo, is_local, StaysIn}
 use Rattle.tac_ir.specs.Fitting.{is_word, is_base_there, is_of_key}
 use Rattle.tac_ir.specs.Keys.{gives}
@@ -417,7 +417,7 @@ module _ (g : Setting) (t : Tac) where
       leave_trailed g t u n temps frames s k all b m has _ refl (act_leaves g t b u m temps frames s)
   act_trailed (tac.Return a) u n temps frames s has k all =
       only_trailed (fits g t (tac.Return a) u temps s) _
-      (given_trailed t u frames (temps a) (spent (handed_bytes (temps a)) s) all)
+      (given_trailed t u frames (temps a) (spent (handing (temps a)) s) all)
   act_trailed i u n temps frames s has k all = flat_trailed g t u n temps frames s k all i refl refl has _ refl
 
   -- work plays no part

@@ -17,7 +17,7 @@ use Rattle.tac_ir.specs.declared.instruction.Instruction.TheVariants as tac
 use Rattle.tac_ir.specs.declared.function.CodeFunction.{CodeFunction}
 use Rattle.tac_ir.specs.declared.function.Tac.{Tac}
 use Rattle.tac_ir.specs.Stage.{Temps, with_temp, gathered, Waiting, Frame, Waits, Entered, Stage, Stands, Over}
-use Rattle.tac_ir.specs.Costs.{handed_bytes, spent}
+use Rattle.tac_ir.specs.Costs.{handing, spent}
 use Rattle.tac_ir.specs.Meaning.{function_in as code_in, called_at, called, effect, given_to, line_in, objects_before}
 use Rattle.flat_code.specs.declared.instruction.FlatInstruction.{FlatInstruction}
 use Rattle.flat_code.specs.declared.instruction.FlatInstruction.TheVariants as flat_code
@@ -189,7 +189,7 @@ module _ (o : OperatorCode) (views : Views) (g : Setting) (t : Tac) (address : (
 
     -- the state once the value of a temporary is handed on
     abbrev handed : ℕ → State
-    handed a = spent (handed_bytes (temps a)) (spent 3 s)
+    handed a = spent (handing (temps a)) (spent 3 s)
 
     pub return_step : (a : ℕ) → slice_get h.code.code n ≡ Some (tac.Return a)
         → Gives (effect g t (tac.Return a) u temps ws (spent 3 s))

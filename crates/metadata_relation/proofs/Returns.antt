@@ -24,7 +24,7 @@ use Rattle.tac_ir.specs.declared.instruction.Instruction.TheVariants as tac
 use Rattle.tac_ir.specs.Accesses.{is_place}
 use Rattle.tac_ir.specs.Fitting.{has_no_tag, is_of_type, is_passed, is_plain_word}
 use Rattle.tac_ir.specs.Stage.{Temps, with_temp, Waiting, Frame, Waits, Entered, Stage, Stands, Over, Stuck}
-use Rattle.tac_ir.specs.Costs.{handed_bytes, spent}
+use Rattle.tac_ir.specs.Costs.{handing, spent}
 use Rattle.tac_ir.specs.Meaning.{function_in as code_in, type_of, effect, given_to, objects_before}
 use Rattle.flat_code.specs.declared.instruction.FlatInstruction.{FlatInstruction}
 use Rattle.flat_code.specs.declared.instruction.FlatInstruction.TheVariants as flat_code
@@ -222,7 +222,7 @@ module _ (c : Compiled) (IsGood : Bytes → Type 0) (right : IsCompiled c IsGood
 
   -- the state once the value is handed on
   abbrev pub handed : State
-  handed = spent (handed_bytes (temps a)) (spent 3 s)
+  handed = spent (handing (temps a)) (spent 3 s)
 
   -- ---- to the end of the run
 
@@ -421,7 +421,7 @@ module _ (c : Compiled) (IsGood : Bytes → Type 0) (right : IsCompiled c IsGood
         (subst (λ z. Leaves (context_at (names c) w.function others) inside.before (back_to z s)) (sym inside.caller_is) on)
         (record { by = good_rest }) in
         good_counted (names c) w.function others (back_to w.caller s) s.input s.output s.taken s.turns
-        (s.work + 3 + handed_bytes (temps a)) back
+        (s.work + 3 + handing (temps a)) back
 
     caller_holds : Holds left_world (record {
       tac = c.layout.expansion.code;

@@ -490,7 +490,7 @@ module _ (c : Compiled) (IsGood : Bytes → Type 0) (right : IsCompiled c IsGood
               area = held.area_is;
               sound = held.sound;
             }) in
-            let bound = work_of_call 7 0 1 (48 + 16 * work_from (taken (Some from) size q line) paid) in
+            let bound = work_of_call 7 0 1 (40 + 13 * work_from (taken (Some from) size q line) paid) in
             let w = served.holds in
             let y = w.behind.state in
             let all = reached_then m p u xs pc at_call (at_call + 1) v v4 y 48 bound three

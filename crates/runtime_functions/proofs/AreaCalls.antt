@@ -154,9 +154,9 @@ module _ (m : MapSizes) (entry : View) (IsGood : Bytes → Type 0) (p : FlatProg
     pub move_served : CallsRuntime m p s fn r 7 0 → IsTakePartRoutine m entry IsGood 0 (held_from 2) 1 8 r
         → (c : ObjectState) (v : Value) (size line a : ℕ) → IsAtCall g k IsGood s x
         → IsToTakePart g k x c v.word size a s.first (held_from (s.first + 2)) (s.first + 1) s.state
-        → ServesArea m p g k IsGood s 7 48 16 x (taken (Some c) size v line)
+        → ServesArea m p g k IsGood s 7 40 13 x (taken (Some c) size v line)
     move_served h does c v size line a ready q =
-        area_served m p s fn r 7 alone h (omega arith) g k IsGood x (taken (Some c) size v line) 8 48 16 (omega arith)
+        area_served m p s fn r 7 alone h (omega arith) g k IsGood x (taken (Some c) size v line) 8 40 13 (omega arith)
         (λ f. IsFor g k IsGood x f × IsToTakePart g k x c v.word size a 0 (held_from 2) 1 f)
         (does functions types k x c v size line a) ready (
           begins_for s 7 g k IsGood x ready.stands,

@@ -161,7 +161,7 @@ pub fn calls_of_move_area_take_parts_of_contents<S: ShadowForm>()
         → IsAtCall (views_of m functions types S.entry) k (S.IsGood m) s x
         → IsToTakePart (views_of m functions types S.entry) k x c v.word size a s.first (held_from (s.first + 2))
         (s.first + 1) s.state
-        → ServesArea m p (views_of m functions types S.entry) k (S.IsGood m) s 7 48 16 x (taken (Some c) size v line) }
+        → ServesArea m p (views_of m functions types S.entry) k (S.IsGood m) s 7 40 13 x (taken (Some c) size v line) }
 {}
 
 /// The call that puts a part of contents to a place does at any line what the source does where the place is found.

@@ -2,7 +2,7 @@
 -- give;
 -- where they end or pause, objects and accesses are kept.
 use Rattle.source_meaning.specs.Good.{PlaceIs, ReachBy, function_count, After, Any, AreLow, ArgumentIs, ArgumentsAre}
-use Rattle.source_meaning.specs.Good.{AreOfKinds, IsGiven, IsOfKind, IsOfType, IsWord, Basis, Context, HasContents}
+use Rattle.source_meaning.specs.Good.{AreOfKinds, IsGiven, IsOfKind, IsOfType, IsWord, Basis, Context, HasTaken}
 use Rattle.source_meaning.specs.Good.{IsGood, IsGoodBy, IsTagged, Leaves, LvalueIs, OnName, OnPointer, OnValue}
 use Rattle.source_meaning.specs.Good.{RvalueReach, Stops, StructureIs, Sure, TakenIs, ValueIs}
 use Rattle.std.proofs.Common.{◌≡◌, ℕ, ◌<◌, ◌^◌, zero, suc, List, [], ◌∷◌, Bool, true, false, Option, Some, None, refl}
@@ -251,9 +251,9 @@ stable_place functions OnPointer w kind v old new l h = (stable_tag _ v old new 
 stable_place functions OnValue w kind v old new l h = absurd w
 
 contents_on : (functions : ℕ) (size offset : ℕ) (c : ObjectState) (old new : Objects) → Continues old new
-    → HasContents functions size offset c old → HasContents functions size offset c new
+    → HasTaken functions size offset c old → HasTaken functions size offset c new
 contents_on functions size offset c old new l h = record
-    { sound = sound_object_continues old new l c h.sound; room = h.room }
+    { sound = sound_object_continues old new l c h.sound; whole = h.whole; first = h.first }
 
 taken_on : (functions : ℕ) (n : ℕ) (c : Option ObjectState) (v : Value) (old new : Objects) → Continues old new
     → TakenIs functions n c v old → TakenIs functions n c v new
@@ -288,7 +288,7 @@ stable_arguments functions (k ∷ ks) (v ∷ vs) old new l h =
 taken_structure : (functions : ℕ) (n : ℕ) (c : Option ObjectState) (v : Value) (o : Objects) → TakenIs functions n c v o
     → StructureIs functions n c v o
 taken_structure functions n None v o h = absurd h
-taken_structure functions n (Some c) v o h = h
+taken_structure functions n (Some c) v o h = record { sound = h.sound; room = omega (arith, h.whole, h.first) }
 
 pub argument_value : (functions : ℕ) (kind : Kind) (v : Rvalue) (o : Objects) → ArgumentIs functions kind v o
     → ValueIs functions kind v o

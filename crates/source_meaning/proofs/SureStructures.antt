@@ -1,7 +1,7 @@
 -- Structures by value keep objects sound: contents are sound, and have all bytes of the structure.
 use Rattle.source_meaning.specs.Good.{PlaceIs, ReachBy, on_pointer, function_count, AreLow, IsGiven, IsOfType, IsWord}
 use Rattle.source_meaning.specs.Good.{Any, ArgumentIs, Basis, Context, HasContents, IsTagged, LvalueIs, OnName}
-use Rattle.source_meaning.specs.Good.{OnPointer, OnValue, RvalueReach, StructureIs, Sure, ValueIs}
+use Rattle.source_meaning.specs.Good.{HasTaken, OnPointer, OnValue, RvalueReach, StructureIs, Sure, ValueIs}
 use Rattle.std.proofs.Common.{◌≡◌, ◌≢◌, ℕ, ◌+◌, ◌/◌, ◌%◌, ◌<◌, ◌≤◌, [], ◌∷◌, true, false, ◌==◌, if◌then◌else◌, Option}
 use Rattle.std.proofs.Common.{Some, None, length, get_or, take, drop, refl, ◌∙◌, arith, length-take, length-drop}
 use Rattle.obj_memory.specs.declared.value.Tag.TheVariants.{Untagged}
@@ -80,11 +80,12 @@ moved_sound functions size start source from to objects f t room there =
 
 contents_sound : (functions : ℕ) (size source : ℕ) (from : ObjectState) (objects : Objects)
     → IsSoundObject functions objects from → source + size ≤ from.size
-    → HasContents functions size 0 (contents_of size source from) objects
+    → HasTaken functions size 0 (contents_of size source from) objects
 contents_sound functions size source from objects f there = record {
   sound = moved_sound _ size 0 source from (new_object Automatic 0 size) objects f (fresh_sound _ size objects)
       (omega (arith, fresh_size size)) there;
-  room = omega (arith, moved_size size 0 source from (new_object Automatic 0 size), fresh_size size);
+  whole = moved_size size 0 source from (new_object Automatic 0 size) ∙ fresh_size size;
+  first = refl;
 }
 
 pub taken_argument : (functions : ℕ) (size source : ℕ) (from : ObjectState) (objects : Objects)
@@ -98,7 +99,7 @@ zero_argument functions Void objects = record { tag = tt; structure = refl; word
 zero_argument functions (OfScalar k) objects = record { tag = tt; structure = refl; word = zero_of_type functions k }
 zero_argument functions (Structure n) objects = record {
   tag = tt;
-  structure = record { sound = fresh_sound _ n objects; room = omega (arith, fresh_size n) };
+  structure = record { sound = fresh_sound _ n objects; whole = fresh_size n; first = refl };
   word = λ _.
       omega arith;
 }

@@ -1,8 +1,7 @@
 -- An update through a pointer to a live object is a read, the new value, and a write through the same pointer.
-use Rattle.std.proofs.Common.{◌≡◌, ℕ, false, List, [], ◌∷◌, ◌++◌, Option, Some, None, refl, sym, ap, subst}
+use Rattle.std.proofs.Common.{◌≡◌, ℕ, false, [], ◌∷◌, ◌++◌, Option, Some, None, refl, sym, ap, subst}
 use Rattle.behaviours.specs.Shown.{Read}
 use Rattle.obj_memory.specs.declared.judgement.Verdict.{Verdict}
-use Rattle.obj_memory.specs.declared.judgement.Verdict.TheVariants.{Inside}
 use Rattle.obj_memory.specs.declared.value.Place.{Place}
 use Rattle.obj_memory.specs.declared.value.Scalar.{Scalar}
 use Rattle.obj_memory.specs.declared.value.Value.{Value}

@@ -213,9 +213,15 @@ pub record ValueIs (functions : ℕ) (kind : Kind) (value : Rvalue) (objects : O
   pub structure : OfKind functions kind value objects
   pub word : IsOfKind functions kind value.value
 
+-- contents that were taken: so many bytes, from the first on
+pub record HasTaken (functions size offset : ℕ) (object : ObjectState) (objects : Objects) : Type 0 where
+  pub sound : IsSoundObject functions objects object
+  pub whole : object.size ≡ size
+  pub first : offset ≡ 0
+
 abbrev pub TakenIs : (functions size : ℕ) → Option ObjectState → Value → Objects → Type 0
 TakenIs functions n None v o = ⊥
-TakenIs functions n (Some c) v o = HasContents functions n v.word c o
+TakenIs functions n (Some c) v o = HasTaken functions n v.word c o
 
 abbrev pub TakenOf : (functions : ℕ) → Kind → Rvalue → Objects → Type 0
 TakenOf functions Void v o = v.contents ≡ None

@@ -264,17 +264,17 @@ impl State {
         self.function = caller.function;
     }
 
-    // The bytes of contents that a value has.
-    fn handed_bytes(&self, value: Temporary) -> u64 {
+    // What handing the contents of a value on counts.
+    fn handing(&self, value: Temporary) -> u64 {
         match value.contents.and_then(|number| self.contents.get(number)) {
-            Some(contents) => contents.size,
+            Some(contents) => contents.size.saturating_mul(4).saturating_add(1),
             None => 0,
         }
     }
 
     /// A return of a value; the node where the caller goes on.
     pub(crate) fn give_back(&mut self, value: Temporary) -> Result<usize, Stop> {
-        self.spend(self.handed_bytes(value));
+        self.spend(self.handing(value));
         match self.frames.pop() {
             None => Err(Stop::Exited(int_of(value.value.word))),
             Some(Frame::Entered(_)) => Err(Stop::Stuck),

@@ -15,7 +15,7 @@ use Rattle.tac_ir.specs.declared.key.Key.{Key}
 use Rattle.tac_ir.specs.declared.function.CodeFunction.{CodeFunction}
 use Rattle.tac_ir.specs.declared.function.Tac.{Tac}
 use Rattle.tac_ir.specs.Stage.{Temps, no_temps, Frame, Waits, Entered, Stage, Begins, Stands, Over, Stuck, came}
-use Rattle.tac_ir.specs.Costs.{handed_bytes, spent}
+use Rattle.tac_ir.specs.Costs.{handing, spent}
 use Rattle.tac_ir.specs.Keys.{gives}
 use Rattle.tac_ir.specs.Accesses.{only_if, admitted, moved_from}
 use Rattle.tac_ir.specs.Edges.{LeadsTo, callers, is_local, StaysIn, GoesAlong}
@@ -152,7 +152,7 @@ effect_along g t (CallThrough type_number line d n m) u temps frames s = came_al
     frames _ _ (λ f z. call_along (CallThrough type_number line d n m) u frames g (function_in t f) f m d _ line _ temps
     z (inl refl))
 effect_along g t (Return a) u temps frames s = given_along (Return a) u frames (temps a)
-    (spent (handed_bytes (temps a)) s)
+    (spent (handing (temps a)) s)
 effect_along g t i u temps frames s = stays_along i u frames _ (effect_stays g t i u temps frames s refl)
 
 pub act_along : (g : Setting) (t : Tac) (i : Instruction) (u : ℕ) (temps : Temps) (frames : List Frame) (s : State)

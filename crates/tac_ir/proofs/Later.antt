@@ -30,7 +30,7 @@ use Rattle.tac_ir.specs.declared.function.CodeFunction.{CodeFunction}
 use Rattle.tac_ir.specs.declared.function.Tac.{Tac}
 use Rattle.tac_ir.specs.Stage.{Temps, gathered, Frame, Waits, Entered, Stage, Begins, Stands, Over}
 use Rattle.tac_ir.specs.Stage.{Stuck, came}
-use Rattle.tac_ir.specs.Costs.{handed_bytes, spent}
+use Rattle.tac_ir.specs.Costs.{handing, spent}
 use Rattle.tac_ir.specs.Keys.{gives}
 use Rattle.tac_ir.specs.Accesses.{only_if, admitted, moved_from, is_through}
 use Rattle.tac_ir.specs.Later.{ComesLater}
@@ -204,8 +204,8 @@ effect_later g t (EnterBlock b line m) u temps frames s =
 effect_later g t (ZeroOf kind d m) u temps frames s =
     search (later, came_later s (acts_heavier (local_make_zero kind).action)) depth 9
 effect_later g t (Return a) u temps frames s =
-    after_later (spent (handed_bytes (temps a)) s) _ (later_spent (handed_bytes (temps a)) s)
-    (given_later (spent (handed_bytes (temps a)) s) frames (temps a))
+    after_later (spent (handing (temps a)) s) _ (later_spent (handing (temps a)) s)
+    (given_later (spent (handing (temps a)) s) frames (temps a))
 effect_later g t i u temps frames s = search later depth 9
 
 pub act_later : (g : Setting) (t : Tac) (i : Instruction) (u : ℕ) (temps : Temps) (frames : List Frame) (s : State)

@@ -46,7 +46,7 @@ use Rattle.tac_ir.specs.Stage.{Temps, gathered, Frame, Waits, Entered, Stage, Be
 use Rattle.tac_ir.specs.Keys.{gives}
 use Rattle.tac_ir.specs.Accesses.{only_if, can_check, is_live_at, is_there, is_place, admitted, moved_from, is_home}
 use Rattle.tac_ir.specs.Accesses.{is_through}
-use Rattle.tac_ir.specs.Costs.{cost, first_call, handed_bytes, spent, fourfold, heavier}
+use Rattle.tac_ir.specs.Costs.{cost, first_call, handing, spent, fourfold, heavier}
 use Rattle.tac_ir.specs.Meaning.{objects_in, function_in, text_in, keyed_by, keyed, right_value, part_pointer, check}
 use Rattle.tac_ir.specs.Meaning.{header_of_code, setting_of_code, given_to, left_for, called_at, called, fits, effect}
 use Rattle.tac_ir.specs.Meaning.{act, act_at}
@@ -231,7 +231,7 @@ module _ (g : Setting) (t : Tac) where
       (λ v s' le. le)
   effect_within (LeaveBlock b m) u temps frames s = left_within (s.turns + 1) b u m temps frames s (omega arith)
   effect_within (Return a) u temps frames s = given_within (s.turns + 1) frames (temps a)
-      (spent (handed_bytes (temps a)) s) (omega arith)
+      (spent (handing (temps a)) s) (omega arith)
   effect_within i u temps frames s = omega arith
 
   act_within : (i : Instruction) (u : ℕ) (temps : Temps) (frames : List Frame) (s : State)

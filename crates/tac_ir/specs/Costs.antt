@@ -112,13 +112,13 @@ cost (LeaveBlock b m) = block_exit
 cost (Return a) = returning
 cost i = operation
 
--- the bytes of contents that a value has, each of which a return hands on
-abbrev pub bytes_in : Option ObjectState → ℕ
-bytes_in None = 0
-bytes_in (Some contents) = contents.size
+-- what a return counts for handing contents on: a routine moves them, and each byte counts as one that a run counts itself
+abbrev pub contents_handing : Option ObjectState → ℕ
+contents_handing None = 0
+contents_handing (Some contents) = 1 + 4 * contents.size
 
-abbrev pub handed_bytes : Rvalue → ℕ
-handed_bytes v = bytes_in v.contents
+abbrev pub handing : Rvalue → ℕ
+handing v = contents_handing v.contents
 
 -- so much work is done
 abbrev pub spent : ℕ → State → State

@@ -1,6 +1,6 @@
 -- Whether what an instruction is given is what it can be asked of: values are of the kinds of where they go, and what
 -- is named is there. Where it is not the code is stuck.
-use Rattle.std.specs.Prelude.{ℕ, ◌+◌, ◌^◌, Bool, true, false, not, ◌&&◌, ◌||◌, ◌==◌, nat_lt, nat_le, List, [], ◌∷◌, map}
+use Rattle.std.specs.Prelude.{ℕ, ◌^◌, Bool, true, false, not, ◌&&◌, ◌||◌, ◌==◌, nat_lt, List, [], ◌∷◌, map}
 use Rattle.std.specs.Prelude.{Option, Some, None, get_or, slice_get}
 use Rattle.std.specs.List.{list_all}
 use Rattle.obj_memory.specs.declared.int_type.IntType.TheVariants.{Int, UnsignedInt, UnsignedLong}
@@ -55,16 +55,16 @@ is_scalar_of k v = is_place v.contents && is_of_type k v.value
 abbrev pub is_plain_word : Rvalue → Bool
 is_plain_word v = is_place v.contents && is_word v.value.word
 
--- contents with some bytes from an offset on
-abbrev pub has_bytes : Option ObjectState → (size offset : ℕ) → Bool
-has_bytes None size offset = false
-has_bytes (Some c) size offset = nat_le (offset + size) c.size
+-- contents of so many bytes, from the first on
+abbrev pub is_structure_of : Option ObjectState → (size offset : ℕ) → Bool
+is_structure_of None size offset = false
+is_structure_of (Some c) size offset = c.size == size && offset == 0
 
--- an argument or a result (6.5.2.2, 6.8.6.4): that of a structure is its contents, and that of `void` is no pointer
+-- an argument or a result (6.5.2.2, 6.8.6.4): that of a structure is all of its contents, and that of `void` is no pointer
 abbrev pub is_passed : Kind → Rvalue → Bool
 is_passed Void v = is_plain_word v && has_no_tag v.value.tag
 is_passed (OfScalar k) v = is_scalar_of k v
-is_passed (Structure n) v = has_bytes v.contents n v.value.word
+is_passed (Structure n) v = is_structure_of v.contents n v.value.word
 is_passed (Array n) v = is_plain_word v
 
 abbrev pub are_passed : List Kind → List Rvalue → Bool

@@ -56,7 +56,7 @@ use Rattle.tac_ir.specs.Accesses.{only_if, can_check, is_live_at, admitted, move
 use Rattle.tac_ir.specs.Fitting.{is_word, is_passed, are_passed, is_written, is_in_place, is_held, is_update_of}
 use Rattle.tac_ir.specs.Fitting.{is_type}
 use Rattle.tac_ir.specs.Fitting.{taken_by, fit_type, are_printed, is_of_key, is_counted, have_no_homes}
-use Rattle.tac_ir.specs.Costs.{cost, first_call, handed_bytes, spent, heavier}
+use Rattle.tac_ir.specs.Costs.{cost, first_call, handing, spent, heavier}
 
 -- tables
 
@@ -252,7 +252,7 @@ effect g t (EnterBlock b line m) u temps frames s =
     came (heavier (enter_block g (objects_in (function_in t u) b) line) s)
     (λ q s. Stands u m temps (Entered b q ∷ frames) s)
 effect g t (LeaveBlock b m) u temps frames s = left_for b u m temps frames s
-effect g t (Return a) u temps frames s = given_to frames (temps a) (spent (handed_bytes (temps a)) s)
+effect g t (Return a) u temps frames s = given_to frames (temps a) (spent (handing (temps a)) s)
 
 -- what a function takes; of one that is not there nothing is asked
 abbrev pub fit_call : Option CodeFunction → List Rvalue → Bool

@@ -555,11 +555,11 @@ module _ (map : MapSizes) (mapped : AreMapped map) (to : ℕ) (h : Held) (bytes 
             out)
             p.apart
 
-    moves_area : Does cx (move ++ (move_parts to h bytes t ++ clear_rest h bytes t)) IsReady (λ s. 48 + 16 * n)
+    moves_area : Does cx (move ++ (move_parts to h bytes t ++ clear_rest h bytes t)) IsReady (λ s. 40 + 13 * n)
         (λ s. Either (HasMovedArea to n size offset a t s) Never)
     moves_area =
         quiet_weaken cx (move ++ (move_parts to h bytes t ++ clear_rest h bytes t))
-        ((16 + 7 * n) + ((12 + (n / 8 * 15 + 1)) + (10 + (n / 8 * 28 + 1)))) (48 + 16 * n) IsReady IsReady
+        ((16 + 7 * n) + ((12 + (n / 8 * 15 + 1)) + (10 + (n / 8 * 28 + 1)))) (40 + 13 * n) IsReady IsReady
         (HasMovedArea to n size offset a t) (HasMovedArea to n size offset a t) (omega arith) (λ s p. p)
         (λ s s' p h. h)
         (both_quiet cx move (move_parts to h bytes t ++ clear_rest h bytes t) (16 + 7 * n)

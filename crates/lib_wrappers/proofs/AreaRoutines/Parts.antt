@@ -28,7 +28,7 @@ takes_parts map mapped entry IsGood local to h bytes t r moves functions types k
     let e : (x.work + size) - x.work ≡ size = omega arith in
     let work : work_from (taken (Some c) size v line) x ≡ size = e in
     let P : State → Type 0 = λ f. IsFor g k IsGood x f × IsToTakePart g k x c v.word size a to h bytes f in
-    does_weaken (in_runtime map charge weight) r (48 + 16 * size) (48 + 16 * work_from (taken (Some c) size v line) x)
+    does_weaken (in_runtime map charge weight) r (40 + 13 * size) (40 + 13 * work_from (taken (Some c) size v line) x)
     (IsToMoveArea map to h bytes size c.size v.word a) P
     (λ f. Either (HasMovedArea to size c.size v.word a t f) Never)
     (λ f. LeavesArea g k IsGood (f.values to) t f (taken (Some c) size v line x)) (omega arith)

@@ -38,11 +38,11 @@ pub record HasMovedArea (to n size offset a scratch : ℕ) (before after : State
   pub shows : ShowsNothing before after
   pub others : OthersStay [] scratch before after
 
--- within 48 steps and 16 for each byte
+-- within 40 steps and 13 for each byte
 abbrev pub IsMoveAreaRoutine : MapSizes → (to : ℕ) → Held → (bytes scratch : ℕ) → List FlatInstruction → Type 0
 IsMoveAreaRoutine map to h bytes t r =
     (n size offset a : ℕ)
-    → DoesInRuntime map r (IsToMoveArea map to h bytes n size offset a) (48 + 16 * n)
+    → DoesInRuntime map r (IsToMoveArea map to h bytes n size offset a) (40 + 13 * n)
     (HasMovedArea to n size offset a t)
 
 -- ---- its instructions

@@ -57,7 +57,7 @@ pub record IsToTakePart (views : Views) (keys : Keys) (source : Source) (content
   pub area : IsArea views keys contents a state.memory
   pub sound : IsSoundObject views.functions source.objects contents
 
--- within 48 steps and 16 for each byte
+-- within 40 steps and 13 for each byte
 abbrev pub IsTakePartRoutine : MapSizes → View → (Bytes → Type 0) → (to : ℕ) → Held → (bytes scratch : ℕ)
     → List FlatInstruction → Type 0
 IsTakePartRoutine map entry IsGood to h bytes t r =
@@ -66,5 +66,5 @@ IsTakePartRoutine map entry IsGood to h bytes t r =
     let g = views_of map functions types entry in
     Does (context_in (runtime_basis map entry IsGood) charge weight) r
     (λ f. IsFor g k IsGood x f × IsToTakePart g k x c v.word size a to h bytes f)
-    (λ f. 48 + 16 * work_from (taken (Some c) size v line) x)
+    (λ f. 40 + 13 * work_from (taken (Some c) size v line) x)
     (λ f. LeavesArea g k IsGood (f.values to) t f (taken (Some c) size v line x))

@@ -1,5 +1,5 @@
 -- Accesses of scalars.
-use Rattle.std.proofs.Common.{◌≡◌, ℕ, sym, ap, subst, refl, ◌∙◌, Ok, Err, Bool, true, false, Some, None, if◌then◌else◌}
+use Rattle.std.proofs.Common.{◌≡◌, ℕ, ◌+◌, sym, ap, subst, refl, ◌∙◌, Ok, Err, Bool, true, false, Some, None, if◌then◌else◌}
 use Rattle.std.specs.Prelude.{Result, Option}
 use Rattle.obj_memory.specs.declared.judgement.Verdict.{Verdict}
 use Rattle.obj_memory.specs.declared.judgement.Verdict.TheVariants.{Outside as OutOfBounds, Dead, Inside}
@@ -11,9 +11,11 @@ use Rattle.obj_memory.specs.Objects.{Objects}
 use Rattle.obj_memory.specs.Sound.{KeepsObjects}
 use Rattle.obj_memory.proofs.Keeping.{keeps_value}
 use Rattle.source_meaning.specs.State.{State, Gives, Ended, Run, Setting, read_state, change}
+use Rattle.source_meaning.specs.Places.{heap_first, heap_last}
 use Rattle.source_meaning.specs.Actions.{load, located, note, place_or_stop, read_scalar, store, verdict_on}
 use Rattle.source_meaning.specs.Actions.{write_scalar}
 use Rattle.behaviours.specs.Shown.{Read, Write}
+use Rattle.interpreter_objects.specs.Blocks.{AreInOrder, AreLive}
 use Rattle.interpreter_objects.specs.Kept.{found, is_there, kept, with_written}
 use Rattle.interpreter_objects.proofs.Keeping.{same_found, same_judged, same_named, same_there, same_written}
 use Rattle.interpreter_objects.proofs.Ranges.{some_is}
@@ -83,20 +85,22 @@ finds g o m k p v e = reads g o m v (λ s. read_value k p s.objects)
     (λ start s st. sym (some_is (is_there (scalar_size k) p s.objects) v (read_value k p s.objects)
     (e ∙ ap (found k p) st.objects_are ∙ same_found k p s.objects)))
 
--- the machine's objects are changed as all are
-pub changes : (g : Setting) (o : Outside) (old new : Machine) (f : Objects → Objects)
-    → ((objects : Objects) → KeepsObjects objects (f objects)) → new ≡ record old { store = new.store }
+-- the machine's objects are changed as all are, and its blocks with those
+pub alters_blocks : (g : Setting) (o : Outside) (old new : Machine) (f : Objects → Objects)
+    → new ≡ record old { store = new.store; blocks = new.blocks }
     → ((objects : Objects) → old.store ≡ kept objects → new.store ≡ kept (f objects))
+    → ((objects : Objects) → old.store ≡ kept objects → AreLive objects old.blocks → AreLive (f objects) new.blocks)
+    → (AreInOrder (heap_first g) (heap_last g + 1) old.blocks → AreInOrder (heap_first g) (heap_last g + 1) new.blocks)
     → Acts g old new o o (Ok tt) (change (λ s. record s { objects = f s.objects }))
-changes g o old new f keeps e h = record {
+alters_blocks g o old new f e h live order = record {
   by = λ start s st.
       let next : State = record s { objects = f s.objects } in
       record {
         state = next;
         holds = subst (λ m. Stands g start m o next) (sym e) (record {
           objects_are = h s.objects st.objects_are;
-          blocks_live = kept_live s.objects (f s.objects) old.blocks (keeps s.objects) st.blocks_live;
-          in_order = st.in_order;
+          blocks_live = live s.objects st.objects_are st.blocks_live;
+          in_order = order st.in_order;
           frame_is = st.frame_is;
           plain_is = st.plain_is;
           input_is = st.input_is;
@@ -113,6 +117,24 @@ changes g o old new f keeps e h = record {
         comes = refl;
       };
 }
+
+-- where no block is made and none dies
+pub alters : (g : Setting) (o : Outside) (old new : Machine) (f : Objects → Objects)
+    → new ≡ record old { store = new.store }
+    → ((objects : Objects) → old.store ≡ kept objects → new.store ≡ kept (f objects))
+    → ((objects : Objects) → old.store ≡ kept objects → AreLive objects old.blocks → AreLive (f objects) old.blocks)
+    → Acts g old new o o (Ok tt) (change (λ s. record s { objects = f s.objects }))
+alters g o old new f e h live =
+    subst (λ m. Acts g old m o o (Ok tt) (change (λ s. record s { objects = f s.objects }))) (sym e)
+    (alters_blocks g o old (record old { store = new.store }) f refl h live (λ order. order))
+
+-- a change that keeps what objects are
+pub changes : (g : Setting) (o : Outside) (old new : Machine) (f : Objects → Objects)
+    → ((objects : Objects) → KeepsObjects objects (f objects)) → new ≡ record old { store = new.store }
+    → ((objects : Objects) → old.store ≡ kept objects → new.store ≡ kept (f objects))
+    → Acts g old new o o (Ok tt) (change (λ s. record s { objects = f s.objects }))
+changes g o old new f keeps e h = alters g o old new f e h
+    (λ objects same live. kept_live objects (f objects) old.blocks (keeps objects) live)
 
 written_there : (k : Scalar) (p : Place) (v : Value) (store store' objects : Objects)
     → true ≡ is_there (scalar_size k) p store → store' ≡ with_written k v p store → store ≡ kept objects

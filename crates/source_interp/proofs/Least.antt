@@ -1,6 +1,6 @@
 -- The least actions.
 use Rattle.std.proofs.Common.{◌≡◌, ℕ, zero, suc, ◌+◌, sym, ap, subst, refl, ◌∙◌, Ok, Err, Bool, true, false, arith}
-use Rattle.std.proofs.Common.{List, [], ◌∷◌, ◌++◌, length, map, Option, Some, None}
+use Rattle.std.proofs.Common.{List, [], ◌∷◌, ◌++◌, length, Option, Some, None}
 use Rattle.std.specs.Prelude.{Result, min, get_or, set, nat_lt, ◌≤◌, ◌<◌}
 use Rattle.std.proofs.lemmas.List.{append_assoc, length-append}
 use Rattle.sb_base.specs.declared.ending.Ending.TheVariants.{Keys}
@@ -18,7 +18,8 @@ use Rattle.source_interp.specs.declared.stop.Stop.{Stop}
 use Rattle.source_interp.specs.declared.stop.Stop.TheVariants as stopped_by
 use Rattle.source_interp.specs.declared.stop.Cause.TheVariants as cause
 use Rattle.source_interp.specs.Outside.{Outside, outside, more}
-use Rattle.source_interp.specs.Standing.{Acts, ComesTo, Does, Stands, last_count, home_of}
+use Rattle.source_interp.specs.Homes.{home_of}
+use Rattle.source_interp.specs.Standing.{Acts, ComesTo, Does, Stands, last_count}
 
 -- a count that stops at its last value
 stopped : (a b : ℕ) → min (min a last_count + b) last_count ≡ min (a + b) last_count
@@ -135,17 +136,11 @@ pub points : (g : Setting) (o : Outside) (m : Machine) (n : ℕ) (v : Value) →
 points g o m n v e = reads g o m v (λ s. pointer_to n s.objects)
     (λ start s st. sym (e ∙ ap (pointer_to n) st.objects_are ∙ same_pointer n s.objects))
 
-home_at : (homes : List (Option ℕ)) (x : ℕ) → get_or (map home_of homes) x NoObject ≡ home_of (get_or homes x None)
-home_at [] x = refl
-home_at (h ∷ hs) zero = refl
-home_at (h ∷ hs) (suc x) = home_at hs x
-
 home_is : (g : Setting) (o start : Outside) (m : Machine) (s : State) (x : ℕ) (home : Option ℕ)
-    → Stands g start m o s → home ≡ get_or m.frame.items x None → get_or s.frame x NoObject ≡ home_of home
-home_is g o start m s x home st e =
-    ap (λ hs. get_or hs x NoObject) st.frame_is ∙ home_at m.frame.items x ∙ ap home_of (sym e)
+    → Stands g start m o s → home_of home ≡ get_or m.frame x NoObject → get_or s.frame x NoObject ≡ home_of home
+home_is g o start m s x home st e = ap (λ hs. get_or hs x NoObject) st.frame_is ∙ sym e
 
-pub points_no_home : (g : Setting) (o : Outside) (m : Machine) (x : ℕ) → None ≡ get_or m.frame.items x None
+pub points_no_home : (g : Setting) (o : Outside) (m : Machine) (x : ℕ) → home_of None ≡ get_or m.frame x NoObject
     → Acts g m m o o (Ok (integer 0)) (read_state (home_pointer x))
 points_no_home g o m x e = reads g o m (integer 0) (home_pointer x)
     (λ start s st. ap (λ h. home_value h s.objects) (home_is g o start m s x None st e))
@@ -159,7 +154,7 @@ reads_alike g o m r f f' h a = record {
 }
 
 pub points_some_home : (g : Setting) (o : Outside) (m : Machine) (x n : ℕ) (r : Result Value Stop)
-    → Some n ≡ get_or m.frame.items x None → Acts g m m o o r (read_state (λ s. pointer_to n s.objects))
+    → home_of (Some n) ≡ get_or m.frame x NoObject → Acts g m m o o r (read_state (λ s. pointer_to n s.objects))
     → Acts g m m o o r (read_state (home_pointer x))
 points_some_home g o m x n r e a = reads_alike g o m r (home_pointer x) (λ s. pointer_to n s.objects)
     (λ start s st. ap (λ h. home_value h s.objects) (home_is g o start m s x (Some n) st e)) a

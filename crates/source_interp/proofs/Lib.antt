@@ -4,3 +4,9 @@ mod Least
 mod Accesses
 mod Updates
 mod Putting
+mod Structures
+mod ActionLaws
+mod Evaluating
+mod Takes
+mod Housing
+mod Stacked

@@ -1,4 +1,10 @@
 pub mod Answers
+pub mod Homes
 pub mod Outside
 pub mod Standing
 pub mod Putting
+pub mod Copying
+pub mod Performing
+pub mod Limits
+pub mod Variables
+pub mod Placing

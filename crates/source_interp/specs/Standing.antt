@@ -1,10 +1,10 @@
 -- What an interpreter keeps of a state of a run, and when what its code did is what an action of the meaning does.
-use Rattle.std.specs.Prelude.{◌≡◌, ℕ, ◌+◌, ◌-◌, ◌^◌, min, List, map, length, Option, Some, None, Result, Ok, Err}
+use Rattle.std.specs.Prelude.{◌≡◌, ℕ, ◌+◌, ◌-◌, ◌^◌, min, List, length, Option, Some, None, Result, Ok, Err}
 use Rattle.behaviours.specs.Shown.{Access}
 use Rattle.sb_base.specs.declared.ending.Ending.{Ending}
 use Rattle.sb_base.specs.declared.ending.Ending.TheVariants as ending
 use Rattle.sb_outside.specs.Content.{gained}
-use Rattle.source_meaning.specs.State.{State, Home, NoObject, InObject, Outcome, Gives, Ended, Paused, Run, Setting}
+use Rattle.source_meaning.specs.State.{State, Outcome, Gives, Ended, Paused, Run, Setting}
 use Rattle.source_meaning.specs.Places.{heap_first, heap_last}
 use Rattle.interpreter_objects.specs.Blocks.{AreInOrder, AreLive}
 use Rattle.interpreter_objects.specs.Kept.{kept}
@@ -19,17 +19,13 @@ use Rattle.source_interp.specs.Outside.{Outside, outside, more}
 abbrev pub last_count : ℕ
 last_count = 2 ^ 128 - 1
 
-abbrev pub home_of : Option ℕ → Home
-home_of None = NoObject
-home_of (Some n) = InObject n
-
 -- A machine, and what the outside has now, stand for a state, where start is what the outside had when nothing was
 -- shown. Of dead objects the machine keeps neither bytes nor tags, and two of its counts stop at their last value.
 pub record Stands (g : Setting) (start : Outside) (m : Machine) (now : Outside) (s : State) : Type 0 where
   pub objects_are : m.store ≡ kept s.objects
   pub blocks_live : AreLive s.objects m.blocks
   pub in_order : AreInOrder (heap_first g) (heap_last g + 1) m.blocks
-  pub frame_is : s.frame ≡ map home_of m.frame.items
+  pub frame_is : s.frame ≡ m.frame
   pub plain_is : s.plain ≡ m.plain.items
   pub input_is : s.input ≡ now.input
   pub taken_is : m.taken ≡ s.taken

@@ -1,12 +1,19 @@
-//! What a source means, run directly. So far this is the state of a run, and some of what is done with it: scalars are
-//! read, written and updated, and bytes put out. No source is run.
+//! What a source means, run directly. So far this is the state of a run, and some of what is done with it: the actions
+//! of expressions, structures by value, blocks that are entered and left, bytes put out. No source is run.
 #![tactic(auto)]
 
 pub mod access;
+pub mod automatic;
+pub mod evaluation;
 pub mod found;
+pub mod homes;
+pub mod limits;
 pub mod machine;
 pub mod output;
 pub mod stop;
+pub mod structure;
+pub mod taking;
 pub mod trace;
 pub mod update;
 pub mod value;
+pub mod variables;

@@ -1,6 +1,6 @@
 //! What an interpreter keeps of a run, and the least of what it does.
 
-ghost use Rattle.std.specs.Prelude.{◌≡◌, ◌+◌, min, get_or, set, None, Ok};
+ghost use Rattle.std.specs.Prelude.{◌≡◌, ◌+◌, min, get_or, set, Ok};
 ghost use Rattle.obj_memory.specs.Objects.{pointer_to};
 ghost use Rattle.source_meaning.specs.State.{Setting, read_state, tally};
 ghost use Rattle.source_meaning.specs.Actions.{begin_turn, home_pointer, integer, note, plain_value, set_plain};
@@ -8,6 +8,7 @@ ghost use Rattle.source_meaning.specs.Actions.{take_key};
 ghost use Rattle.source_interp.specs.Outside.{Outside, kind_by};
 ghost use Rattle.source_interp.specs.Standing.{Acts, ActsAlone, ActsTraced, last_count};
 
+use crate::homes::Homes;
 use crate::stop::{Cause, Fault, Stop};
 use crate::trace::{Access, Trace};
 use crate::value::integer;
@@ -22,7 +23,7 @@ pub struct Machine {
     /// The live blocks of the heap.
     pub blocks: Blocks,
     /// For each variable of the function that runs the number of its object, where its block is entered.
-    pub frame: Vec<Option<usize>>,
+    pub frame: Homes,
     /// The values of the plain variables of the function that runs.
     pub plain: Vec<Value>,
     /// The number of bytes taken of the input.
@@ -120,15 +121,6 @@ impl Machine {
         self.assign(variable, value);
     }
 
-    fn home(&self, variable: usize) -> Option<usize>
-        ensures { result ≡ get_or self.now.frame.items variable None }
-    {
-        match self.frame.get(variable) {
-            Some(home) => *home,
-            None => None,
-        }
-    }
-
     /// The pointer to a whole object.
     pub fn pointer_to(&self, number: usize) -> Result<Value, Stop>
         ensures { ActsAlone self.now self.now result (read_state (λ s. pointer_to number s.objects)) }
@@ -144,7 +136,7 @@ impl Machine {
     pub fn home_pointer(&self, variable: usize) -> Result<Value, Stop>
         ensures { ActsAlone self.now self.now result (read_state (home_pointer variable)) }
     {
-        match self.home(variable) {
+        match self.frame.home(variable) {
             Some(number) => self.pointer_to(number),
             None => Ok(integer(0)),
         }

@@ -1,9 +1,11 @@
 //! Values, and what operators make of them.
 
-ghost use Rattle.std.specs.Prelude.{◌≡◌, ℕ, ◌*◌};
+ghost use Rattle.std.specs.Prelude.{◌≡◌, ℕ, ◌*◌, not};
 ghost use Rattle.source_meaning.specs.State.{State};
-ghost use Rattle.source_meaning.specs.Actions.{converted, given, integer, moved_back, offset_value, operate, updated};
+ghost use Rattle.source_meaning.specs.Actions.{converted, given, integer, is_zero, moved_back, offset_value};
+ghost use Rattle.source_meaning.specs.Actions.{operate, updated};
 ghost use Rattle.obj_memory.specs.Judgement.{moved};
+ghost use Rattle.obj_memory.specs.Operators.{one_if};
 ghost use Rattle.source_interp.specs.Answers.{value_or_end};
 
 use c_tree::{Fixity, Kind, OffsetForm, Update};
@@ -17,6 +19,13 @@ pub fn integer(word: u64) -> Value
         word,
         tag: Tag::Untagged,
     }
+}
+
+/// Whether a value is not zero, as an int (C99 6.5.3.3, 6.5.13, 6.5.14).
+pub fn truth(value: Value) -> Value
+    ensures { result ≡ integer (one_if (not (is_zero value))) }
+{
+    integer(u64::from(value.word != 0))
 }
 
 /// A value converted to a kind (C99 6.3.1.3, 6.3.2.3).

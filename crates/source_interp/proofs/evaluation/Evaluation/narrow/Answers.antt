@@ -1,0 +1,18 @@
+use Rattle.std.proofs.Common.{refl, ap, ◌∙◌, Ok}
+use Rattle.obj_memory.specs.Judgement.{narrowed}
+use Rattle.source_meaning.specs.Structures.{give, rvalue}
+use Rattle.interpreter_tasks.specs.Actions as action
+use Rattle.source_interp.proofs.Acting.{gives_acts}
+use Rattle.source_interp.proofs.ActionLaws as law
+use Rattle.source_interp.proofs.Evaluating.{one_operand}
+use Rattle.source_interp.proofs.evaluation.Evaluation.narrow.Goals as goal
+
+pub returns : goal.returns
+returns c o =
+    one_operand (action.Narrow c.args.offset c.args.size) (λ t. give (narrowed c.args.offset c.args.size t.value))
+    (law.narrows c.args.offset c.args.size) c.args.self.now c.take-value.new.self c.take-value.new.self o o
+    c.take-value.result (Ok c.plain.result) c.take-value.ensures.first c.take-value.ensures.rest (λ g. gives_acts g
+    c.take-value.new.self.machine o c.plain.result (rvalue (narrowed c.args.offset c.args.size
+    c.take-value.result.value)) (c.plain.ensures ∙ ap rvalue (c.narrowed.ensures ∙ ap (narrowed c.args.offset
+    c.args.size) c.value.ensures))) c.leave.new.self c.plain.result c.leave.result refl refl c.leave.ensures.left
+    c.leave.ensures.failed

@@ -1,0 +1,18 @@
+use Rattle.std.proofs.Common.{refl, ap, ◌∙◌, Ok, not}
+use Rattle.obj_memory.specs.Operators.{one_if}
+use Rattle.source_meaning.specs.Actions.{integer, is_zero}
+use Rattle.source_meaning.specs.Structures.{give, rvalue}
+use Rattle.interpreter_tasks.specs.Actions as action
+use Rattle.source_interp.proofs.Acting.{gives_acts}
+use Rattle.source_interp.proofs.ActionLaws as law
+use Rattle.source_interp.proofs.Evaluating.{one_operand}
+use Rattle.source_interp.proofs.evaluation.Evaluation.truth.Goals as goal
+
+pub returns : goal.returns
+returns c o =
+    one_operand action.Truth (λ t. give (integer (one_if (not (is_zero t.value))))) law.truths c.args.self.now
+    c.take-value.new.self c.take-value.new.self o o c.take-value.result (Ok c.plain.result) c.take-value.ensures.first
+    c.take-value.ensures.rest (λ g. gives_acts g c.take-value.new.self.machine o c.plain.result (rvalue (integer (one_if
+    (not (is_zero c.take-value.result.value))))) (c.plain.ensures ∙ ap rvalue (c.truth.ensures ∙ ap (λ x. integer
+    (one_if (not (is_zero x)))) c.value.ensures))) c.leave.new.self c.plain.result c.leave.result refl refl
+    c.leave.ensures.left c.leave.ensures.failed

@@ -96,8 +96,8 @@ writes k j line c r = refl
 
 pub sets_plain : (x : ℕ) (c : Course) (r : Registers)
     → act c (SetPlain x) r ≡ pushing r (below_top r) (do
-  set_plain x (top r).value
-  give (top r).value)
+      set_plain x (top r).value
+      give (top r).value)
 unfolding act
 sets_plain x c r = refl
 

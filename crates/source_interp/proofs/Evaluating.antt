@@ -32,7 +32,8 @@ left_acts c r m mid new before now x v below run (Ok t) e a left fails same =
     let machine : new.machine ≡ mid.machine = ap {A = Evaluation} (λ z. z.machine) left in
     let values : new.values ≡ v ∷ below = ap {A = Evaluation} (λ z. z.values) left ∙ ap (λ vs. v ∷ vs) same in
     subst (λ y. Acts c.setting m y before now (Ok (record r { values = new.values })) (pushing r below run))
-    (sym machine) (then_acts c.setting m mid.machine mid.machine before now now x v (Ok (record r { values = new.values
+    (sym machine) (then_acts c.setting m mid.machine mid.machine before now now x v (Ok (record r {
+      values = new.values;
     })) run
     (λ w. done (record r { values = w ∷ below })) e a
     (gives_acts c.setting mid.machine now (record r { values = new.values }) (record r { values = v ∷ below })
@@ -203,7 +204,7 @@ drops old new o e = record {
 
 -- a result that is none is that the code could not go on
 
-pub fails : {A : Type 0} (f : Fault) (e : Stop) → e ≡ stop.Failed f → Fails {A = A} (Err e)
-fails {A} f e same = subst (λ x. Fails {A = A} (Err x)) (sym same) tt
+pub fails : (f : Fault) (e : Stop) → e ≡ stop.Failed f → Fails {A = Unit {0}} (Err e)
+fails f e same = subst (λ x. Fails {A = Unit {0}} (Err x)) (sym same) tt
 
 pub ruleset leaving = (fails)

@@ -3,7 +3,7 @@ use Rattle.std.proofs.Common.{◌≡◌, ℕ, zero, suc, ◌+◌, ◌<◌, ◌�
 use Rattle.std.proofs.Common.{List, [], ◌∷◌, ◌++◌, length, map, drop, ⊎_elim}
 use Rattle.std.specs.Prelude.{Option, get_or, max}
 use Rattle.std.proofs.lemmas.Bool.{cases_lt}
-use Rattle.std.proofs.lemmas.List.{append-nil, append_assoc, drop_all, drop_more, get_or_past, map-append}
+use Rattle.std.proofs.lemmas.List.{append-nil, append_assoc, drop_all, drop_more, get_or_past, length-map, map-append}
 use Rattle.std.proofs.Math.ListN.{get_or-map}
 use Rattle.source_meaning.specs.State.{Home, NoObject, InObject}
 use Rattle.source_meaning.specs.Blocks.{homes_over, over}
@@ -12,6 +12,9 @@ use Rattle.source_interp.specs.Homes.{home_of, homes_of}
 pub at_home : (items : List (Option ℕ)) (x : ℕ) (home : Option ℕ) → home ≡ get_or items x None
     → home_of home ≡ get_or (homes_of items) x NoObject
 at_home items x home e = ap home_of e ∙ sym (get_or-map home_of items x None)
+
+pub as_many : (items : List (Option ℕ)) → length items ≡ length (homes_of items)
+as_many items = sym (length-map items home_of)
 
 pub one_more : (items new : List (Option ℕ)) (home : Option ℕ) → new ≡ items ++ (home ∷ [])
     → homes_of new ≡ homes_of items ++ (home_of home ∷ [])

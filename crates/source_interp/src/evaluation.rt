@@ -106,7 +106,9 @@ impl Evaluation {
             (action.Read kind is_judged line) }
     {
         let from = self.take();
-        let value = self.machine.read_rvalue(trace, kind, is_judged, from, line)?;
+        let value = self
+            .machine
+            .read_rvalue(trace, kind, is_judged, from, line)?;
         self.leave(value)
     }
 
@@ -114,24 +116,24 @@ impl Evaluation {
     pub fn as_pointer(&mut self) -> Result<(), Stop>
         ensures { PerformsAlone self.old self.new result action.AsPointer }
     {
-        let value = self.take();
-        self.leave(Found::plain(value.value()))
+        let found = self.take();
+        self.leave(Found::plain(found.value()))
     }
 
     /// It is converted to a kind (6.3).
     pub fn convert(&mut self, kind: Kind) -> Result<(), Stop>
         ensures { PerformsAlone self.old self.new result (action.Convert kind) }
     {
-        let value = self.take();
-        self.leave(Found::plain(converted(kind, value.value())))
+        let found = self.take();
+        self.leave(Found::plain(converted(kind, found.value())))
     }
 
     /// It is the operand of an operator (6.5.3.3).
     pub fn apply(&mut self, operator: UnaryOperator, of: IntType) -> Result<(), Stop>
         ensures { PerformsAlone self.old self.new result (action.Apply operator of) }
     {
-        let value = self.take();
-        let word = operator.apply(of, value.value().word);
+        let found = self.take();
+        let word = operator.apply(of, found.value().word);
         self.leave(Found::plain(integer(word)))
     }
 
@@ -139,16 +141,16 @@ impl Evaluation {
     pub fn truth(&mut self) -> Result<(), Stop>
         ensures { PerformsAlone self.old self.new result action.Truth }
     {
-        let value = self.take();
-        self.leave(Found::plain(truth(value.value())))
+        let found = self.take();
+        self.leave(Found::plain(truth(found.value())))
     }
 
     /// A member of what it points to (6.5.2.3).
     pub fn narrow(&mut self, offset: u64, size: u64) -> Result<(), Stop>
         ensures { PerformsAlone self.old self.new result (action.Narrow offset size) }
     {
-        let value = self.take();
-        self.leave(Found::plain(value.value().narrowed(offset, size)))
+        let found = self.take();
+        self.leave(Found::plain(found.value().narrowed(offset, size)))
     }
 
     /// A member of it, which may have contents (6.5.2.3).
@@ -160,12 +162,7 @@ impl Evaluation {
     }
 
     /// The two values found last are the operands of an operator (6.5.5 to 6.5.14).
-    pub fn operate(
-        &mut self,
-        operator: BinaryOperator,
-        of: IntType,
-        line: u32,
-    ) -> Result<(), Stop>
+    pub fn operate(&mut self, operator: BinaryOperator, of: IntType, line: u32) -> Result<(), Stop>
         ensures { PerformsAlone self.old self.new result (action.Operate operator of line) }
     {
         let right = self.take();
@@ -203,7 +200,9 @@ impl Evaluation {
     {
         let value = self.take();
         let pointer = self.take();
-        let stored = self.machine.write_rvalue(trace, kind, is_judged, pointer.value(), line, value)?;
+        let stored = self
+            .machine
+            .write_rvalue(trace, kind, is_judged, pointer.value(), line, value)?;
         self.leave(stored)
     }
 
@@ -254,7 +253,9 @@ impl Evaluation {
             (action.ChangePlain updating.update updating.scalar variable line updating.fixity) }
     {
         let right = self.take();
-        let value = self.machine.update_plain(updating, variable, right.value(), line)?;
+        let value = self
+            .machine
+            .update_plain(updating, variable, right.value(), line)?;
         self.leave(Found::plain(value))
     }
 }

@@ -1,6 +1,6 @@
 //! Where the variables of a function are kept (C99 6.2.4 paragraph 5).
 
-ghost use Rattle.std.specs.Prelude.{◌≡◌, [], ◌∷◌, ◌++◌, get_or, map, IfOk, OnOk};
+ghost use Rattle.std.specs.Prelude.{◌≡◌, [], ◌∷◌, ◌++◌, get_or, length, map, IfOk, OnOk};
 ghost use Rattle.source_meaning.specs.State.{NoObject};
 ghost use Rattle.source_meaning.specs.Blocks.{homes_over, over};
 ghost use Rattle.source_interp.specs.Homes.{home_of, homes_of};
@@ -44,6 +44,13 @@ impl Homes {
         }
     }
 
+    #[tactic(auto, using(crate::proofs::Housing::as_many))]
+    fn count(&self) -> usize
+        ensures { result ≡ length self.now }
+    {
+        self.items.len()
+    }
+
     /// The number of the object of a variable.
     #[tactic(auto, using(crate::proofs::Housing::at_home))]
     pub fn home(&self, variable: usize) -> Option<usize>
@@ -84,7 +91,7 @@ impl Homes {
         ensures { IfOk result (λ homes. homes ≡ homes_over self.now inner.now) }
     {
         let mut items = Vec::new(alloc);
-        for i in 0..self.items.len().max(inner.items.len()) {
+        for i in 0..self.count().max(inner.count()) {
             items.push(over(self.home(i), inner.home(i)))?;
         }
         Ok(Homes { items })

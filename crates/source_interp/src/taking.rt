@@ -78,13 +78,7 @@ impl Machine {
         self.part_at(alloc, size, value.word, contents)
     }
 
-    fn taken(
-        &mut self,
-        alloc: Global,
-        size: u64,
-        value: &Found,
-        line: u32,
-    ) -> Result<Found, Stop>
+    fn taken(&mut self, alloc: Global, size: u64, value: &Found, line: u32) -> Result<Found, Stop>
         ensures { ActsAlone self.old self.new result (taken value.now.contents size value.now.value line) }
     {
         let found = value.value();

@@ -11,9 +11,9 @@ use Rattle.source_interp.proofs.evaluation.Evaluation.apply.Goals as goal
 pub returns : goal.returns
 returns c o =
     one_operand (action.Apply c.args.operator c.args.of) (λ t. give (integer (unary_value c.args.operator c.args.of
-    t.value.word))) (law.applies c.args.operator c.args.of) c.args.self.now c.take-value.new.self c.take-value.new.self
-    o o c.take-value.result (Ok c.plain.result) c.take-value.ensures.first c.take-value.ensures.rest (λ g. gives_acts g
-    c.take-value.new.self.machine o c.plain.result (rvalue (integer (unary_value c.args.operator c.args.of
-    c.take-value.result.value.word))) (c.plain.ensures ∙ ap rvalue (c.integer.ensures ∙ ap integer (c.apply-word.ensures
+    t.value.word))) (law.applies c.args.operator c.args.of) c.args.self.now c.take-found.new.self c.take-found.new.self
+    o o c.take-found.result (Ok c.plain.result) c.take-found.ensures.first c.take-found.ensures.rest (λ g. gives_acts g
+    c.take-found.new.self.machine o c.plain.result (rvalue (integer (unary_value c.args.operator c.args.of
+    c.take-found.result.value.word))) (c.plain.ensures ∙ ap rvalue (c.integer.ensures ∙ ap integer (c.apply-word.ensures
     ∙ ap (λ x. unary_value c.args.operator c.args.of x.word) c.value.ensures)))) c.leave.new.self c.plain.result
     c.leave.result refl refl c.leave.ensures.left c.leave.ensures.failed

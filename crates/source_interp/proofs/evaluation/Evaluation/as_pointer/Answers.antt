@@ -8,8 +8,8 @@ use Rattle.source_interp.proofs.evaluation.Evaluation.as_pointer.Goals as goal
 
 pub returns : goal.returns
 returns c o =
-    one_operand action.AsPointer (λ t. give t.value) law.points c.args.self.now c.take-value.new.self
-    c.take-value.new.self o o c.take-value.result (Ok c.plain.result) c.take-value.ensures.first
-    c.take-value.ensures.rest (λ g. gives_acts g c.take-value.new.self.machine o c.plain.result (rvalue
-    c.take-value.result.value) (c.plain.ensures ∙ ap rvalue c.value.ensures)) c.leave.new.self c.plain.result
+    one_operand action.AsPointer (λ t. give t.value) law.points c.args.self.now c.take-found.new.self
+    c.take-found.new.self o o c.take-found.result (Ok c.plain.result) c.take-found.ensures.first
+    c.take-found.ensures.rest (λ g. gives_acts g c.take-found.new.self.machine o c.plain.result (rvalue
+    c.take-found.result.value) (c.plain.ensures ∙ ap rvalue c.value.ensures)) c.leave.new.self c.plain.result
     c.leave.result refl refl c.leave.ensures.left c.leave.ensures.failed

@@ -16,8 +16,10 @@ returns-in_err-value g c w i =
     (λ x y. as_rvalue (update c.args.updating.scalar c.args.is_judged x.value c.args.place_line (updated
     c.args.updating.update c.args.updating.scalar y.value c.args.line) c.args.updating.fixity)) (law.changes
     c.args.updating.update c.args.updating.scalar c.args.is_judged c.args.place_line c.args.line c.args.updating.fixity)
-    c.args.self.now c.take-right.new.self c.take-pointer.new.self (record c.take-pointer.new.self { machine =
-    c.update.new.self }) (outside w (g.T.Trace.noted c.args.trace.now) i) (outside w (g.T.Trace.noted
+    c.args.self.now c.take-right.new.self c.take-pointer.new.self (record c.take-pointer.new.self {
+      machine =
+          c.update.new.self;
+    }) (outside w (g.T.Trace.noted c.args.trace.now) i) (outside w (g.T.Trace.noted
     c.update.new.trace) i) c.take-pointer.result c.take-right.result (Err c.in_err-value.field-0.0)
     c.take-right.ensures.first c.take-right.ensures.rest c.take-pointer.ensures.first c.take-pointer.ensures.rest (λ e.
     subst (λ y. Acts e c.take-pointer.new.self.machine c.update.new.self (outside w (g.T.Trace.noted c.args.trace.now)

@@ -10,9 +10,9 @@ use Rattle.source_interp.proofs.evaluation.Evaluation.narrow.Goals as goal
 pub returns : goal.returns
 returns c o =
     one_operand (action.Narrow c.args.offset c.args.size) (λ t. give (narrowed c.args.offset c.args.size t.value))
-    (law.narrows c.args.offset c.args.size) c.args.self.now c.take-value.new.self c.take-value.new.self o o
-    c.take-value.result (Ok c.plain.result) c.take-value.ensures.first c.take-value.ensures.rest (λ g. gives_acts g
-    c.take-value.new.self.machine o c.plain.result (rvalue (narrowed c.args.offset c.args.size
-    c.take-value.result.value)) (c.plain.ensures ∙ ap rvalue (c.narrowed.ensures ∙ ap (narrowed c.args.offset
+    (law.narrows c.args.offset c.args.size) c.args.self.now c.take-found.new.self c.take-found.new.self o o
+    c.take-found.result (Ok c.plain.result) c.take-found.ensures.first c.take-found.ensures.rest (λ g. gives_acts g
+    c.take-found.new.self.machine o c.plain.result (rvalue (narrowed c.args.offset c.args.size
+    c.take-found.result.value)) (c.plain.ensures ∙ ap rvalue (c.narrowed.ensures ∙ ap (narrowed c.args.offset
     c.args.size) c.value.ensures))) c.leave.new.self c.plain.result c.leave.result refl refl c.leave.ensures.left
     c.leave.ensures.failed

@@ -11,8 +11,8 @@ use Rattle.source_interp.proofs.evaluation.Evaluation.truth.Goals as goal
 pub returns : goal.returns
 returns c o =
     one_operand action.Truth (λ t. give (integer (one_if (not (is_zero t.value))))) law.truths c.args.self.now
-    c.take-value.new.self c.take-value.new.self o o c.take-value.result (Ok c.plain.result) c.take-value.ensures.first
-    c.take-value.ensures.rest (λ g. gives_acts g c.take-value.new.self.machine o c.plain.result (rvalue (integer (one_if
-    (not (is_zero c.take-value.result.value))))) (c.plain.ensures ∙ ap rvalue (c.truth.ensures ∙ ap (λ x. integer
+    c.take-found.new.self c.take-found.new.self o o c.take-found.result (Ok c.plain.result) c.take-found.ensures.first
+    c.take-found.ensures.rest (λ g. gives_acts g c.take-found.new.self.machine o c.plain.result (rvalue (integer (one_if
+    (not (is_zero c.take-found.result.value))))) (c.plain.ensures ∙ ap rvalue (c.truth.ensures ∙ ap (λ x. integer
     (one_if (not (is_zero x)))) c.value.ensures))) c.leave.new.self c.plain.result c.leave.result refl refl
     c.leave.ensures.left c.leave.ensures.failed

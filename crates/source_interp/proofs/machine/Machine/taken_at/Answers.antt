@@ -1,4 +1,4 @@
-use Rattle.std.proofs.Common.{refl, ap, ◌∙◌, Ok, Err}
+use Rattle.std.proofs.Common.{refl, ap, ◌∙◌, Ok, Err, false}
 use Rattle.std.proofs.lemmas.Result.{err_from_is_err_and}
 use Rattle.obj_memory.specs.Objects.{object_at}
 use Rattle.source_meaning.specs.State.{◌>>◌, read_state, tally}

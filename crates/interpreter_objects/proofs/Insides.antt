@@ -1,5 +1,7 @@
 -- What a test of bytes tells.
-use Rattle.std.proofs.Common.{◌≡◌, ℕ, ◌+◌, ◌/◌, ◌≤◌, Bool, true, false, ◌&&◌, length, leb-true, refl, arith}
+use Rattle.std.proofs.Common.{◌≡◌, ℕ, ◌+◌, ◌-◌, ◌/◌, ◌≤◌, Bool, true, false, ◌&&◌, length, leb-true, refl, arith}
+use Rattle.std.proofs.Common.{List, take, drop}
+use Rattle.std.proofs.lemmas.List.{length-drop, length-take}
 use Rattle.obj_memory.specs.Objects.{ObjectState}
 use Rattle.obj_memory.specs.declared.int_type.IntType.{IntType}
 use Rattle.obj_memory.specs.declared.int_type.IntType.TheVariants.{Char}
@@ -49,3 +51,15 @@ of_type _ = omega arith
 pub some_bytes : (k : Scalar) → 1 ≤ scalar_size k
 some_bytes (Integer t) = of_type t
 some_bytes Pointer = omega arith
+
+-- as many bytes from an offset on as are there
+pub some_there : (size offset n : ℕ) (bytes : List ℕ) → offset + size ≤ length bytes → n ≡ length bytes
+    → size ≡ length (take size (take (n - offset) (drop offset bytes)))
+some_there size offset n bytes h e = omega (
+  arith,
+  length-take size (take (n - offset) (drop offset bytes)),
+  length-take (n - offset) (drop offset bytes),
+  length-drop offset bytes,
+  h,
+  e,
+)

@@ -1,6 +1,6 @@
 -- Objects that are kept stand for all objects: what is judged, read and written among them is the same.
 use Rattle.std.proofs.Common.{◌≡◌, ℕ, zero, suc, ◌+◌, ◌-◌, ◌/◌, Bool, true, false, not, ◌&&◌, ◌||◌}
-use Rattle.std.proofs.Common.{nat_le, if◌then◌else◌, [], ◌∷◌}
+use Rattle.std.proofs.Common.{nat_le, if◌then◌else◌, List, [], ◌∷◌, take, drop}
 use Rattle.std.proofs.Common.{set, length, refl, sym, ap, ◌∙◌, Some, None}
 use Rattle.byteorder.specs.Endian.{little_bytes}
 use Rattle.obj_memory.specs.declared.judgement.Verdict.TheVariants.{Outside, Dead, Inside}
@@ -11,7 +11,8 @@ use Rattle.obj_memory.specs.declared.value.Scalar.TheVariants.{Integer, Pointer}
 use Rattle.obj_memory.specs.declared.value.Tag.{Tag}
 use Rattle.obj_memory.specs.declared.value.Tag.TheVariants.{Untagged, OfFunction, OfObject}
 use Rattle.obj_memory.specs.declared.value.Value.{Value}
-use Rattle.obj_memory.specs.Access.{is_aligned, move_range, read_value, scalar_size, write_value}
+use Rattle.obj_memory.specs.Access.{bytes_at, is_aligned, move_range, read_value, scalar_size, write_bytes}
+use Rattle.obj_memory.specs.Access.{write_value}
 use Rattle.obj_memory.specs.Heap.{block_count, block_room, is_allocated, is_clear, is_clear_of, is_live_block}
 use Rattle.obj_memory.specs.Heap.{least_from, least_place}
 use Rattle.obj_memory.specs.Judgement.{are_within, judge, judged, named, named_in, place_in}
@@ -21,7 +22,7 @@ use Rattle.source_meaning.specs.Structures.{contents_of, moved_into, put_range}
 use Rattle.interpreter_objects.specs.Kept.{has_range, is_movable, is_puttable, with_cleared, with_moved, with_put}
 use Rattle.interpreter_objects.specs.Kept.{zeroed}
 use Rattle.interpreter_objects.specs.Kept.{buried, found, has_bytes, is_there, kept, kept_object, read_in, with_buried}
-use Rattle.interpreter_objects.specs.Kept.{with_bytes, with_written, written_in}
+use Rattle.interpreter_objects.specs.Kept.{with_bytes, with_bytes_put, with_written, written_in}
 use Rattle.interpreter_objects.proofs.Insides.{both, by_test, range_bytes, there_life}
 use Rattle.interpreter_objects.proofs.Placed.{read_is, written_is}
 
@@ -158,6 +159,34 @@ same_written k v p objects =
     ap (λ b. if b then write_value k v p (kept objects) else kept objects) (same_there (scalar_size k) p objects)
     ∙ same_write k v p objects (is_there (scalar_size k) p objects) refl
 
+-- bytes
+
+same_put_bytes : (bytes : List ℕ) (p : Place) (objects : Objects) (b : Bool) → is_there (length bytes) p objects ≡ b
+    → (if b then write_bytes bytes p (kept objects) else kept objects)
+    ≡ kept (if b then write_bytes bytes p objects else objects)
+unfolding is_there write_bytes
+same_put_bytes bytes p objects false e = refl
+same_put_bytes bytes p objects true e =
+    let o = object_at objects p.object in
+    let same : kept_object o ≡ o = there_live p.offset (length bytes) o e in
+    ap (λ x. set (kept objects) p.object (with_bytes p.offset bytes x)) (kept_at objects p.object ∙ same)
+    ∙ ap (λ x. set (kept objects) p.object x) (sym (live_kept (with_bytes p.offset bytes o)
+    (there_life p.offset (length bytes) o e)))
+    ∙ sym (kept_set objects p.object (with_bytes p.offset bytes o))
+
+pub same_bytes_put : (bytes : List ℕ) (p : Place) (objects : Objects)
+    → with_bytes_put bytes p (kept objects) ≡ kept (with_bytes_put bytes p objects)
+unfolding with_bytes_put
+same_bytes_put bytes p objects =
+    ap (λ b. if b then write_bytes bytes p (kept objects) else kept objects) (same_there (length bytes) p objects)
+    ∙ same_put_bytes bytes p objects (is_there (length bytes) p objects) refl
+
+pub same_bytes_at : (size : ℕ) (p : Place) (objects : Objects) → is_there size p objects ≡ true
+    → bytes_at size p (kept objects) ≡ bytes_at size p objects
+unfolding is_there
+same_bytes_at size p objects e = ap (λ o. take size (drop p.offset o.bytes)) (kept_at objects p.object
+    ∙ there_live p.offset size (object_at objects p.object) e)
+
 -- what is judged
 
 module _ (objects : Objects) (n : ℕ) where
@@ -167,13 +196,16 @@ module _ (objects : Objects) (n : ℕ) where
   abbrev one : ObjectState
   one = object_at objects n
 
-  address_at : kept_one.address ≡ one.address
+  pub storage_at : kept_one.storage ≡ one.storage
+  storage_at = ap (λ o. o.storage) (kept_at objects n) ∙ same_storage one
+
+  pub address_at : kept_one.address ≡ one.address
   address_at = ap (λ o. o.address) (kept_at objects n) ∙ same_address one
 
-  size_at : kept_one.size ≡ one.size
+  pub size_at : kept_one.size ≡ one.size
   size_at = ap (λ o. o.size) (kept_at objects n) ∙ same_size one
 
-  life_at : kept_one.is_live ≡ one.is_live
+  pub life_at : kept_one.is_live ≡ one.is_live
   life_at = ap (λ o. o.is_live) (kept_at objects n) ∙ same_life one
 
 place_at : (objects : Objects) (n address : ℕ) → place_in (kept objects) n address ≡ place_in objects n address

@@ -13,7 +13,7 @@ use Rattle.obj_memory.specs.Access.{is_aligned, read_value, scalar_size, write_b
 use Rattle.obj_memory.specs.Objects.{ObjectState, Objects, no_object, object_at}
 use Rattle.obj_memory.proofs.Reading.{object_set}
 use Rattle.interpreter_objects.specs.Kept.{found, found_in, has_bytes, is_there, read_in, with_bytes}
-use Rattle.interpreter_objects.specs.Kept.{with_written, written_in}
+use Rattle.interpreter_objects.specs.Kept.{with_bytes_put, with_written, written_in}
 
 set_again : {A : Type 0} (xs : List A) (n : ℕ) (x y : A) → set (set xs n x) n y ≡ set xs n y
 set_again [] n x y = refl
@@ -109,3 +109,33 @@ not_written k v p objects h =
     ap (λ c. if c then write_value k v p objects else objects) (not_there (scalar_size k) p objects h)
 
 pub ruleset writing = (written_by, not_there, not_written)
+
+-- bytes written
+
+put_if : (bytes : List ℕ) (p : Place) (objects : Objects) (b : Bool)
+    → set objects p.object
+    (if b then with_bytes p.offset bytes (object_at objects p.object) else object_at objects p.object)
+    ≡ (if b then write_bytes bytes p objects else objects)
+unfolding write_bytes
+put_if bytes p objects true = refl
+put_if bytes p objects false = set-get_or objects p.object no_object
+
+pub bytes_by : (bytes : List ℕ) (p : Place) (objects : Objects) (o new : ObjectState) (b : Bool)
+    → o ≡ object_at objects p.object
+    → b ≡ has_bytes p.offset (length bytes) o
+    → new ≡ (if b then with_bytes p.offset bytes o else o)
+    → set objects p.object new ≡ with_bytes_put bytes p objects
+unfolding with_bytes_put is_there
+bytes_by bytes p objects o new b same there e =
+    ap (λ x. set objects p.object x) e
+    ∙ ap (λ x. set objects p.object (if b then with_bytes p.offset bytes x else x)) same
+    ∙ put_if bytes p objects b
+    ∙ ap (λ c. if c then write_bytes bytes p objects else objects) (there ∙ ap (has_bytes p.offset (length bytes)) same)
+
+pub no_bytes_by : (bytes : List ℕ) (p : Place) (objects : Objects) → length objects ≤ p.object
+    → objects ≡ with_bytes_put bytes p objects
+unfolding with_bytes_put is_there
+no_bytes_by bytes p objects h =
+    ap (λ c. if c then write_bytes bytes p objects else objects) (not_there (length bytes) p objects h)
+
+pub ruleset putting_bytes = (bytes_by, not_there, no_bytes_by)

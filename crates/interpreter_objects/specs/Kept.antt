@@ -9,7 +9,8 @@ use Rattle.obj_memory.specs.declared.value.Scalar.TheVariants.{Integer, Pointer}
 use Rattle.obj_memory.specs.declared.value.Tag.{Tag}
 use Rattle.obj_memory.specs.declared.value.Tag.TheVariants.{Untagged}
 use Rattle.obj_memory.specs.declared.value.Value.{Value}
-use Rattle.obj_memory.specs.Access.{is_aligned, move_range, overwrite, read_value, scalar_size, write_value}
+use Rattle.obj_memory.specs.Access.{is_aligned, move_range, overwrite, read_value, scalar_size, write_bytes}
+use Rattle.obj_memory.specs.Access.{write_value}
 use Rattle.obj_memory.specs.Integers.{size_of}
 use Rattle.obj_memory.specs.Objects.{ObjectState, Objects, object_at, with_zeroed}
 use Rattle.source_meaning.specs.Structures.{put_range}
@@ -74,6 +75,10 @@ found k p objects = if is_there (scalar_size k) p objects then Some (read_value 
 
 unfoldable pub with_written : Scalar → Value → Place → Objects → Objects
 with_written k v p objects = if is_there (scalar_size k) p objects then write_value k v p objects else objects
+
+-- bytes written, which leaves the tags
+unfoldable pub with_bytes_put : List ℕ → Place → Objects → Objects
+with_bytes_put bytes p objects = if is_there (length bytes) p objects then write_bytes bytes p objects else objects
 
 -- ranges of bytes with their tags, moved between objects or from contents, and an object with zero bytes, where a live
 -- object has all that is read and written

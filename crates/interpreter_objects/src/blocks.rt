@@ -91,6 +91,22 @@ impl Blocks {
         self.blocks.len()
     }
 
+    /// Where a new block of some size would be placed: in the first gap of the heap, where there is one.
+    #[tactic(auto, unfolding(crate::specs::Blocks::gap_in))]
+    pub fn seek(&self, first: u64, last: u64, size: u64) -> Option<u64>
+        requires { last + 1 < 2 ^ 64 }
+        ensures { result ≡ gap_in first last (block_room size) self.now }
+    {
+        let Some(room) = room(size) else {
+            return None;
+        };
+        let (_, start) = gap(&self.blocks, first, room);
+        if u128::from(start) + u128::from(room) > u128::from(last) + 1 {
+            return None;
+        }
+        Some(start)
+    }
+
     /// A new block of some size is placed in the first gap of the heap, where there is one.
     #[tactic(auto, unfolding(crate::specs::Blocks::gap_in, crate::specs::Blocks::with_gap_filled))]
     pub fn place(&mut self, first: u64, last: u64, size: u64) -> Result<Option<u64>, AllocError>

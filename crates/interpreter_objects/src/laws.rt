@@ -8,6 +8,7 @@ ghost use Rattle.obj_memory.specs.declared.value.Scalar.{Scalar};
 ghost use Rattle.obj_memory.specs.declared.value.Value.{Value};
 ghost use Rattle.obj_memory.specs.declared.object.Storage.TheVariants.{Allocated};
 ghost use Rattle.obj_memory.specs.Heap.{block_count, block_room, is_allocated, is_live_block, least_place};
+ghost use Rattle.obj_memory.specs.Access.{bytes_at};
 ghost use Rattle.obj_memory.specs.Judgement.{judge, named};
 ghost use Rattle.obj_memory.specs.Objects.{ObjectState, Objects, object_at, pointer_to, with_dead, with_new};
 ghost use Rattle.obj_memory.specs.Sound.{KeepsObjects};
@@ -15,7 +16,8 @@ ghost use Rattle.source_meaning.specs.Structures.{contents_of};
 ghost use Rattle.interpreter_objects.specs.declared.blocks.Block.{Block};
 ghost use Rattle.interpreter_objects.specs.Blocks.{AreInOrder, AreLive, block_of, gap_in, with_gap_filled, without};
 ghost use Rattle.interpreter_objects.specs.Kept.{found, has_range, is_movable, is_puttable, is_there, kept};
-ghost use Rattle.interpreter_objects.specs.Kept.{with_buried, with_cleared, with_moved, with_put, with_written};
+ghost use Rattle.interpreter_objects.specs.Kept.{with_buried, with_bytes_put, with_cleared, with_moved, with_put};
+ghost use Rattle.interpreter_objects.specs.Kept.{with_written};
 
 /// Pointers are judged among the objects that are kept as among all, also those to dead objects, and a pointer to an
 /// object is the same.
@@ -29,6 +31,8 @@ pub fn kept_objects_are_judged_alike()
 pub fn kept_objects_hold_the_same()
     ensures there { (size : ℕ) (p : Place) (objects : Objects)
         → is_there size p (kept objects) ≡ is_there size p objects }
+    ensures bytes { (size : ℕ) (p : Place) (objects : Objects) → is_there size p objects ≡ true
+        → bytes_at size p (kept objects) ≡ bytes_at size p objects }
     ensures scalars { (k : Scalar) (p : Place) (objects : Objects) → found k p (kept objects) ≡ found k p objects }
     ensures contents { (size offset n : ℕ) (objects : Objects)
         → has_range offset size (object_at objects n) ≡ true
@@ -42,6 +46,8 @@ pub fn kept_objects_change_alike()
     ensures dead { (n : ℕ) (objects : Objects) → kept (with_dead n objects) ≡ with_buried n (kept objects) }
     ensures written { (k : Scalar) (v : Value) (p : Place) (objects : Objects)
         → with_written k v p (kept objects) ≡ kept (with_written k v p objects) }
+    ensures bytes { (bytes : List ℕ) (p : Place) (objects : Objects)
+        → with_bytes_put bytes p (kept objects) ≡ kept (with_bytes_put bytes p objects) }
     ensures movable { (size : ℕ) (d s : Place) (objects : Objects)
         → is_movable size d s (kept objects) ≡ is_movable size d s objects }
     ensures moved { (size : ℕ) (d s : Place) (objects : Objects)
@@ -52,6 +58,16 @@ pub fn kept_objects_change_alike()
         → with_put size d source c (kept objects) ≡ kept (with_put size d source c objects) }
     ensures cleared { (n : ℕ) (objects : Objects)
         → with_cleared n (kept objects) ≡ kept (with_cleared n objects) }
+{}
+
+/// What an object is stays, also once it is dead.
+pub fn kept_objects_are_the_same()
+    ensures storage { (objects : Objects) (n : ℕ)
+        → (object_at (kept objects) n).storage ≡ (object_at objects n).storage }
+    ensures address { (objects : Objects) (n : ℕ)
+        → (object_at (kept objects) n).address ≡ (object_at objects n).address }
+    ensures size { (objects : Objects) (n : ℕ) → (object_at (kept objects) n).size ≡ (object_at objects n).size }
+    ensures life { (objects : Objects) (n : ℕ) → (object_at (kept objects) n).is_live ≡ (object_at objects n).is_live }
 {}
 
 /// There are as many live blocks, and a new one has the same place.

@@ -1,14 +1,15 @@
 //! One object.
 
 ghost use Rattle.std.specs.Prelude.{◌≡◌, ℕ, ◌+◌, ◌/◌, ◌%◌, ◌^◌, ◌<◌, ◌≤◌, ◌&&◌, if◌then◌else◌};
-ghost use Rattle.std.specs.Prelude.{length, take, drop, get_or, Some, None, IfOk};
+ghost use Rattle.std.specs.Prelude.{length, take, drop, get_or, true, false, Some, None, IfOk, IfSome};
+ghost use Rattle.std.specs.Prelude.{IfNone};
 ghost use Rattle.std.specs.Prelude.{OnOk, OnErr};
 ghost use Rattle.byteorder.specs.Endian.{little_bytes, little_number};
 ghost use Rattle.obj_memory.specs.Access.{is_aligned, moved_tags, overwrite, scalar_size};
 ghost use Rattle.obj_memory.specs.declared.value.Tag.TheVariants.{Untagged};
 ghost use Rattle.source_meaning.specs.Structures.{contents_of, moved_into};
 ghost use Rattle.interpreter_objects.specs.Kept.{buried, found_in, has_bytes, has_range, part_of, read_in};
-ghost use Rattle.interpreter_objects.specs.Kept.{with_tag, written_in, zeroed};
+ghost use Rattle.interpreter_objects.specs.Kept.{with_bytes, with_tag, written_in, zeroed};
 
 use byteorder::{ByteOrder, LittleEndian};
 use obj_memory::{Scalar, Storage, Tag, Value};
@@ -257,6 +258,34 @@ impl Object {
             return false;
         }
         self.put_scalar(scalar, offset, value);
+        true
+    }
+
+    /// So many bytes from an offset on, where it is live and has them.
+    #[tactic(auto, using(crate::proofs::Insides::bytes_inside))]
+    pub fn bytes_from(&self, offset: u64, size: u64) -> Option<&[u8]>
+        ensures some { IfSome result (λ f. f.now ≡ take size (drop offset self.now.bytes)) }
+        ensures there { IfSome result (λ f. has_bytes offset size self.now ≡ true) }
+        ensures none { IfNone result (has_bytes offset size self.now ≡ false) }
+    {
+        if !self.has_bytes(offset, size) {
+            return None;
+        }
+        let all = self.bytes();
+        let found = &all[offset as usize..];
+        Some(&found[..size as usize])
+    }
+
+    /// Bytes are put from an offset on, where it is live and has so many; the tags stay.
+    #[tactic(auto, using(crate::proofs::Insides::bytes_inside))]
+    pub fn put_bytes(&mut self, offset: u64, bytes: &[u8]) -> bool
+        ensures there { result ≡ has_bytes offset (length bytes.now) self.old }
+        ensures value { self.new ≡ (if result then with_bytes offset bytes.now self.old else self.old) }
+    {
+        if !self.has_bytes(offset, bytes.len() as u64) {
+            return false;
+        }
+        put_at(&mut self.bytes, offset, bytes);
         true
     }
 

@@ -1,12 +1,14 @@
 //! All objects of a run, by their numbers.
 
+ghost use Rattle.std.specs.Prelude.{true, false};
 ghost use Rattle.std.specs.Prelude.{◌≡◌, ◌/◌, if◌then◌else◌, length, [], Some, None, IfSome, IfNone, IfOk, OnOk, OnErr};
-ghost use Rattle.obj_memory.specs.Access.{scalar_size};
+ghost use Rattle.obj_memory.specs.Access.{bytes_at, scalar_size};
 ghost use Rattle.obj_memory.specs.Judgement.{are_within, judge, named};
 ghost use Rattle.obj_memory.specs.Objects.{no_object, object_at, pointer_to, with_new};
 ghost use Rattle.source_meaning.specs.Structures.{contents_of};
 ghost use Rattle.interpreter_objects.specs.Kept.{found, has_range, is_movable, is_puttable, is_there, part_of};
-ghost use Rattle.interpreter_objects.specs.Kept.{with_buried, with_cleared, with_moved, with_put, with_written};
+ghost use Rattle.interpreter_objects.specs.Kept.{with_buried, with_bytes_put, with_cleared, with_moved, with_put};
+ghost use Rattle.interpreter_objects.specs.Kept.{with_written};
 
 use crate::object::Object;
 use obj_memory::{Bounds, Place, Scalar, Storage, Tag, Value, Verdict};
@@ -70,8 +72,8 @@ impl Store {
         }
     }
 
-    // The object with a number.
-    fn object(&self, number: usize) -> Option<&Object>
+    /// The object with a number.
+    pub fn object(&self, number: usize) -> Option<&Object>
         ensures found { IfSome result (λ o. o.now ≡ object_at self.now number) }
         ensures none { IfNone result (object_at self.now number ≡ no_object) }
     {
@@ -149,7 +151,8 @@ impl Store {
         }
     }
 
-    fn size(&self, number: usize) -> u64
+    /// The size of the object with a number, 0 where there is none.
+    pub fn size(&self, number: usize) -> u64
         ensures { result ≡ (object_at self.now number).size }
     {
         match self.object(number) {
@@ -201,6 +204,32 @@ impl Store {
             }),
             Tag::Untagged | Tag::OfFunction(_) => Verdict::Outside,
         }
+    }
+
+    /// So many bytes from a place on, where a live object has them.
+    #[tactic(auto, using(crate::proofs::Placed::absent), unfolding(crate::specs::Kept::is_there))]
+    pub fn bytes_at(&self, size: u64, place: Place) -> Option<&[u8]>
+        ensures some { IfSome result (λ f. f.now ≡ bytes_at size place self.now) }
+        ensures there { IfSome result (λ f. is_there size place self.now ≡ true) }
+        ensures none { IfNone result (is_there size place self.now ≡ false) }
+    {
+        match self.object(place.object) {
+            Some(object) => object.bytes_from(place.offset, size),
+            None => None,
+        }
+    }
+
+    /// Bytes are written at a place, where a live object has so many; the tags of their words stay.
+    #[tactic(auto, using(crate::proofs::Placed::putting_bytes), unfolding(crate::specs::Kept::is_there))]
+    pub fn write_bytes(&mut self, place: Place, bytes: &[u8]) -> bool
+        ensures there { result ≡ is_there (length bytes.now) place self.old }
+        ensures value { self.new ≡ with_bytes_put bytes.now place self.old }
+    {
+        let number = place.object;
+        if number >= self.objects.len() {
+            return false;
+        }
+        self.objects[number].put_bytes(place.offset, bytes)
     }
 
     /// Some bytes move from one place to another, also where they overlap, with the tags of their whole words.

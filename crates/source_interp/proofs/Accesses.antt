@@ -1,6 +1,6 @@
 -- Accesses of scalars.
-use Rattle.std.proofs.Common.{◌≡◌, ℕ, ◌+◌, sym, ap, subst, refl, ◌∙◌, Ok, Err, Bool, true, false, Some, None, if◌then◌else◌}
-use Rattle.std.specs.Prelude.{Result, Option}
+use Rattle.std.proofs.Common.{◌≡◌, ℕ, ◌+◌, sym, ap, subst, refl, ◌∙◌, Ok, Err, Bool, true, false, Some, if◌then◌else◌}
+use Rattle.std.specs.Prelude.{Result}
 use Rattle.obj_memory.specs.declared.judgement.Verdict.{Verdict}
 use Rattle.obj_memory.specs.declared.judgement.Verdict.TheVariants.{Outside as OutOfBounds, Dead, Inside}
 use Rattle.obj_memory.specs.declared.value.Place.{Place}
@@ -10,7 +10,7 @@ use Rattle.obj_memory.specs.Access.{read_value, scalar_size, write_value}
 use Rattle.obj_memory.specs.Objects.{Objects}
 use Rattle.obj_memory.specs.Sound.{KeepsObjects}
 use Rattle.obj_memory.proofs.Keeping.{keeps_value}
-use Rattle.source_meaning.specs.State.{State, Gives, Ended, Run, Setting, read_state, change}
+use Rattle.source_meaning.specs.State.{State, Setting, read_state, change}
 use Rattle.source_meaning.specs.Places.{heap_first, heap_last}
 use Rattle.source_meaning.specs.Actions.{load, located, note, place_or_stop, read_scalar, store, verdict_on}
 use Rattle.source_meaning.specs.Actions.{write_scalar}
@@ -25,7 +25,7 @@ use Rattle.source_interp.specs.declared.stop.Stop.{Stop}
 use Rattle.source_interp.specs.declared.stop.Stop.TheVariants as stop
 use Rattle.source_interp.specs.declared.stop.Cause.TheVariants as cause
 use Rattle.source_interp.specs.Outside.{Outside}
-use Rattle.source_interp.specs.Standing.{Acts, ComesTo, Does, Stands, ending_of}
+use Rattle.source_interp.specs.Standing.{Acts, Stands}
 use Rattle.source_interp.proofs.Acting.{stop_acts, then_acts}
 use Rattle.source_interp.proofs.Least.{reads}
 

@@ -1,13 +1,13 @@
 -- What code does one call after another is what runs do one after another.
-use Rattle.std.proofs.Common.{◌≡◌, ℕ, sym, ap, subst, refl, ◌∙◌, Ok, Err, Bool, true, false}
+use Rattle.std.proofs.Common.{◌≡◌, sym, ap, subst, refl, Ok, Err}
 use Rattle.std.specs.Prelude.{Result}
-use Rattle.source_meaning.specs.State.{State, Outcome, Gives, Ended, Paused, on, Run, done, choose, Setting}
+use Rattle.source_meaning.specs.State.{State, Outcome, Gives, on, Run, done, Setting}
 use Rattle.source_interp.specs.declared.machine.Machine.{Machine}
 use Rattle.source_interp.specs.declared.stop.Fault.{Fault}
 use Rattle.source_interp.specs.declared.stop.Stop.{Stop}
 use Rattle.source_interp.specs.declared.stop.Stop.TheVariants as stop
 use Rattle.source_interp.specs.Outside.{Outside}
-use Rattle.source_interp.specs.Standing.{Acts, ComesTo, Does, Stands}
+use Rattle.source_interp.specs.Standing.{Acts, Does, Stands}
 
 -- where a run goes no further, nothing follows
 stops_on : {A B : Type 0} (e : Stop) (first : Outcome A) (next : A → Run B) (Holds : State → Type 0)

@@ -5,10 +5,10 @@ use Rattle.obj_memory.specs.declared.int_type.IntType.{IntType}
 use Rattle.obj_memory.specs.declared.operator.BinaryOperator.{BinaryOperator}
 use Rattle.obj_memory.specs.declared.value.Value.{Value}
 use Rattle.source_meaning.specs.State.{State, Rvalue, Run, ◌>>◌, Setting, done}
-use Rattle.source_meaning.specs.Actions.{operate, set_plain}
+use Rattle.source_meaning.specs.Actions.{difference_value, operate, set_plain}
 use Rattle.source_meaning.specs.Calls.{first_of, rest_of}
 use Rattle.source_meaning.specs.Structures.{as_rvalue, give, rvalue}
-use Rattle.interpreter_tasks.specs.Registers.{Course, Registers, below_second, below_top, pushing, second, top}
+use Rattle.interpreter_tasks.specs.Registers.{Course, Registers, below_second, below_top, popped, pushing, second, top}
 use Rattle.interpreter_tasks.specs.Actions.{Action, Drop, act}
 use Rattle.source_interp.specs.declared.evaluation.Evaluation.{Evaluation}
 use Rattle.source_interp.specs.declared.machine.Machine.{Machine}
@@ -20,7 +20,7 @@ use Rattle.source_interp.specs.Answers.{value_or_end}
 use Rattle.source_interp.specs.Outside.{Outside}
 use Rattle.source_interp.specs.Performing.{Fails, Performs, left_by}
 use Rattle.source_interp.specs.Standing.{Acts}
-use Rattle.source_interp.proofs.Acting.{gives_acts, same_acts, stop_acts, then_acts}
+use Rattle.source_interp.proofs.Acting.{failed_acts, gives_acts, same_acts, stop_acts, then_acts}
 
 -- a value is left on others
 left_acts : (c : Course) (r : Registers) (m : Machine) (mid new : Evaluation) (before now : Outside)
@@ -149,6 +149,51 @@ module _ (a : Action) (k : (left right : Rvalue) → Run Rvalue)
       (stop_acts c.setting old.machine after.machine before now x (Err e) e (k left right)
       (λ v. done (record r { values = v ∷ rest_of (rest_of old.values) })) is refl (two_acts c.setting)))
 
+-- actions that leave the values as they are
+
+module _ (a : Action) (k : Run (Unit {0})) (old after : Evaluation) (before now : Outside)
+    (law : (c : Course) (r : Registers) → r.values ≡ old.values → act c a r ≡ (k >> done r))
+    (same : after.values ≡ old.values) where
+  stays : (c : Course) (r : Registers) (x : Result (Unit {0}) Stop) → r.values ≡ old.values
+      → Acts c.setting old.machine after.machine before now x k
+      → Acts c.setting old.machine after.machine before now (left_by x r after.values) (k >> done r)
+  stays c r (Ok u) is f =
+      then_acts c.setting old.machine after.machine after.machine before now now (Ok u) u
+      (Ok (record r { values = after.values })) k (λ _. done r) refl f
+      (gives_acts c.setting after.machine now (record r { values = after.values }) r
+      (ap (λ vs. record r { values = vs }) (same ∙ sym is)))
+  stays c r (Err e) is f =
+      stop_acts c.setting old.machine after.machine before now (Err e) (Err e) e k (λ _. done r) refl refl f
+
+  pub values_stay : (x : Result (Unit {0}) Stop)
+      → ((g : Setting) → Acts g old.machine after.machine before now x k) → Performs old after before now x a
+  values_stay x acts = record {
+    by = λ c r is. same_acts c.setting old.machine after.machine before now (left_by x r after.values) (k >> done r)
+        (act c a r) (law c r is) (stays c r x is (acts c.setting));
+  }
+
+-- an action that takes the value found last, and gives none
+
+module _ (a : Action) (k : Run Rvalue) (old after : Evaluation) (before now : Outside) (x : Result Rvalue Stop)
+    (law : (c : Course) (r : Registers) → r.values ≡ old.values → act c a r ≡ (k >> done (popped r)))
+    (acts : (g : Setting) → Acts g old.machine after.machine before now x k) where
+  pub lets_go : (v : Rvalue) → x ≡ Ok v → after.values ≡ rest_of old.values → Performs old after before now (Ok tt) a
+  lets_go v e same = record {
+    by = λ c r is. same_acts c.setting old.machine after.machine before now (Ok (record r { values = after.values }))
+        (k >> done (popped r)) (act c a r) (law c r is)
+        (then_acts c.setting old.machine after.machine after.machine before now now x v
+        (Ok (record r { values = after.values })) k (λ _. done (popped r)) e (acts c.setting)
+        (gives_acts c.setting after.machine now (record r { values = after.values }) (popped r)
+        (ap (λ vs. record r { values = vs }) (same ∙ ap rest_of (sym is)))));
+  }
+
+  pub lets_none_go : (e : Stop) (res : Result (Unit {0}) Stop) → x ≡ Err e → res ≡ Err e
+      → Performs old after before now res a
+  lets_none_go e res is is' = stopped_by old after before now e res a is' (λ c r same.
+      same_acts c.setting old.machine after.machine before now (Err e) (k >> done (popped r)) (act c a r) (law c r same)
+      (stop_acts c.setting old.machine after.machine before now x (Err e) e k (λ _. done (popped r)) is refl
+      (acts c.setting)))
+
 -- a value as a value without contents
 
 pub as_value : (g : Setting) (old new : Machine) (before now : Outside) (x : Result Value Stop) (v : Value) (f : Rvalue)
@@ -179,6 +224,12 @@ operates_none g o m op t x y line h = record {
 }
 
 pub ruleset operating = (operates_value, operates_none)
+
+pub subtracts : (g : Setting) (m : Machine) (o : Outside) (size : ℕ) (left right v : Value)
+    → v ≡ difference_value size left right → Acts g m m o o (Ok v) (done (difference_value size left right))
+subtracts g m o size left right v e = gives_acts g m o v (difference_value size left right) e
+
+pub ruleset subtracting = (subtracts, failed_acts)
 
 -- a variable that gets the value found last
 

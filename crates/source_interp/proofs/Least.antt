@@ -1,17 +1,16 @@
 -- The least actions.
-use Rattle.std.proofs.Common.{◌≡◌, ℕ, zero, suc, ◌+◌, sym, ap, subst, refl, ◌∙◌, Ok, Err, Bool, true, false, arith}
+use Rattle.std.proofs.Common.{◌≡◌, ℕ, ◌+◌, sym, ap, subst, refl, ◌∙◌, Ok, Err, true, false, arith}
 use Rattle.std.proofs.Common.{List, [], ◌∷◌, ◌++◌, length, Option, Some, None}
-use Rattle.std.specs.Prelude.{Result, min, get_or, set, nat_lt, ◌≤◌, ◌<◌}
+use Rattle.std.specs.Prelude.{Result, min, get_or, set, nat_lt}
 use Rattle.std.proofs.lemmas.List.{append_assoc, length-append}
 use Rattle.sb_base.specs.declared.ending.Ending.TheVariants.{Keys}
 use Rattle.behaviours.specs.Shown.{Access, AccessKind}
 use Rattle.obj_memory.specs.declared.value.Value.{Value}
-use Rattle.obj_memory.specs.Objects.{Objects, pointer_to}
-use Rattle.source_meaning.specs.State.{State, Home, NoObject, InObject, Outcome, Gives, Ended, Paused, on, Run, done}
+use Rattle.obj_memory.specs.Objects.{pointer_to}
+use Rattle.source_meaning.specs.State.{State, NoObject, Gives}
 use Rattle.source_meaning.specs.State.{choose, Setting, read_state, change, tally, pause, stop}
 use Rattle.source_meaning.specs.Actions.{begin_turn, home_pointer, home_value, integer, note, plain_value, set_plain}
 use Rattle.source_meaning.specs.Actions.{take_key}
-use Rattle.interpreter_objects.specs.Kept.{kept}
 use Rattle.interpreter_objects.proofs.Keeping.{same_pointer}
 use Rattle.source_interp.specs.declared.machine.Machine.{Machine}
 use Rattle.source_interp.specs.declared.stop.Stop.{Stop}
@@ -19,7 +18,7 @@ use Rattle.source_interp.specs.declared.stop.Stop.TheVariants as stopped_by
 use Rattle.source_interp.specs.declared.stop.Cause.TheVariants as cause
 use Rattle.source_interp.specs.Outside.{Outside, outside, more}
 use Rattle.source_interp.specs.Homes.{home_of}
-use Rattle.source_interp.specs.Standing.{Acts, ComesTo, Does, Stands, last_count}
+use Rattle.source_interp.specs.Standing.{Acts, Does, Stands, last_count}
 
 -- a count that stops at its last value
 stopped : (a b : ℕ) → min (min a last_count + b) last_count ≡ min (a + b) last_count

@@ -10,3 +10,6 @@ mod Evaluating
 mod Takes
 mod Housing
 mod Stacked
+mod Burying
+mod Entering
+mod Zeroing

@@ -1,5 +1,5 @@
 -- What a run puts out.
-use Rattle.std.proofs.Common.{◌≡◌, ℕ, ◌%◌, ap, refl, subst, ◌∙◌, Ok, Err, List, [], ◌∷◌, ◌++◌, length, Option}
+use Rattle.std.proofs.Common.{◌≡◌, ℕ, ◌%◌, ap, refl, ◌∙◌, Ok, Err, List, [], ◌∷◌, ◌++◌, length, Option}
 use Rattle.std.specs.Prelude.{Result}
 use Rattle.behaviours.specs.Shown.{Access}
 use Rattle.sb_outside.specs.Content.{gained}

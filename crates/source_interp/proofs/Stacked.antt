@@ -1,16 +1,15 @@
 -- Objects on the object stack.
-use Rattle.std.proofs.Common.{◌≡◌, ℕ, ◌+◌, suc, sym, ap, subst, refl, ◌∙◌, Ok, Err, Bool, true, false, Some, None}
-use Rattle.std.proofs.Common.{List, [], ◌∷◌, length, map}
+use Rattle.std.proofs.Common.{◌≡◌, ℕ, ◌+◌, suc, sym, ap, subst, refl, ◌∙◌, Ok, Err, true, false, None}
+use Rattle.std.proofs.Common.{List, [], ◌∷◌, length}
 use Rattle.std.specs.Prelude.{Result, Option}
 use Rattle.obj_memory.specs.declared.object.Storage.TheVariants.{Automatic}
 use Rattle.obj_memory.specs.declared.value.Value.{Value}
 use Rattle.obj_memory.specs.Heap.{rounded_up}
-use Rattle.obj_memory.specs.Objects.{ObjectState, Objects, with_new}
+use Rattle.obj_memory.specs.Objects.{Objects, with_new}
 use Rattle.c_tree.specs.declared.program.Variable.{Variable}
 use Rattle.c_tree.specs.Kinds.{size_of_kind}
-use Rattle.source_meaning.specs.State.{State, Home, NoObject, InObject, Run, ◌>>=◌, ◌>>◌, Setting, choose, read_state}
-use Rattle.source_meaning.specs.State.{change, done, tally}
-use Rattle.source_meaning.specs.Actions.{make_object}
+use Rattle.source_meaning.specs.State.{State, Home, NoObject, Run, ◌>>◌, Setting, choose, read_state}
+use Rattle.source_meaning.specs.State.{change, done}
 use Rattle.source_meaning.specs.Blocks.{place_object, place_variable}
 use Rattle.interpreter_objects.specs.Kept.{kept}
 use Rattle.interpreter_objects.proofs.Keeping.{kept_new}
@@ -23,7 +22,7 @@ use Rattle.source_interp.specs.Homes.{housed}
 use Rattle.source_interp.specs.Outside.{Outside}
 use Rattle.source_interp.specs.Placing.{add_automatic, place_behind}
 use Rattle.source_interp.specs.Standing.{Acts, Stands}
-use Rattle.source_interp.proofs.Acting.{alike_acts, done_acts, reads_then, same_acts, then_acts}
+use Rattle.source_interp.proofs.Acting.{done_acts, reads_then, same_acts, then_acts}
 use Rattle.source_interp.proofs.Accesses.{alters}
 use Rattle.source_interp.proofs.Least.{reads}
 

@@ -1,5 +1,5 @@
 -- Structures by value.
-use Rattle.std.proofs.Common.{◌≡◌, ℕ, sym, ap, subst, refl, ◌∙◌, Ok, Err, Bool, true, false, Some, None, [], ◌∷◌}
+use Rattle.std.proofs.Common.{◌≡◌, ℕ, sym, ap, refl, ◌∙◌, Ok, Err, Bool, true, false, Some, None, [], ◌∷◌}
 use Rattle.std.proofs.Common.{if◌then◌else◌}
 use Rattle.std.specs.Prelude.{Result, Option, ◌&&◌}
 use Rattle.std.proofs.lemmas.Bool.{false≢true, true≢false}
@@ -11,7 +11,7 @@ use Rattle.obj_memory.specs.declared.value.Place.{Place}
 use Rattle.obj_memory.specs.Access.{move_range, read_value, scalar_size}
 use Rattle.obj_memory.specs.Objects.{Objects, ObjectState, object_at}
 use Rattle.obj_memory.proofs.Keeping.{keeps_moved}
-use Rattle.source_meaning.specs.State.{State, Rvalue, Run, ◌>>=◌, ◌>>◌, Setting, read_state, change, done, tally}
+use Rattle.source_meaning.specs.State.{Rvalue, Run, ◌>>=◌, ◌>>◌, Setting, read_state, change, done, tally}
 use Rattle.source_meaning.specs.Actions.{copy_structure, integer, load, load_structure, located, move_bytes}
 use Rattle.source_meaning.specs.Actions.{read_lvalue, store, write_lvalue}
 use Rattle.source_meaning.specs.Structures.{as_rvalue, contents_of, copy_value, give, part_of, put_contents, put_range}
@@ -26,7 +26,7 @@ use Rattle.source_interp.specs.declared.machine.Machine.{Machine}
 use Rattle.source_interp.specs.declared.stop.Stop.{Stop}
 use Rattle.source_interp.specs.Answers.{is_there}
 use Rattle.source_interp.specs.Outside.{Outside}
-use Rattle.source_interp.specs.Standing.{Acts, Stands}
+use Rattle.source_interp.specs.Standing.{Acts}
 use Rattle.source_interp.proofs.Acting.{done_acts, gives_acts, same_acts, stop_acts, then_acts}
 use Rattle.source_interp.proofs.Least.{reads}
 use Rattle.source_interp.proofs.Accesses.{changes}

@@ -1,5 +1,5 @@
 -- Structures as arguments and results.
-use Rattle.std.proofs.Common.{◌≡◌, ℕ, sym, ap, refl, ◌∙◌, Ok, Some, None, if◌then◌else◌}
+use Rattle.std.proofs.Common.{◌≡◌, ℕ, sym, ap, ◌∙◌, Ok, Some, None, if◌then◌else◌}
 use Rattle.std.specs.Prelude.{Result}
 use Rattle.obj_memory.specs.declared.object.Storage.TheVariants.{Automatic}
 use Rattle.obj_memory.specs.Objects.{ObjectState, new_object}

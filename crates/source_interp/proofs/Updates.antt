@@ -1,5 +1,5 @@
 -- Scalars that are updated.
-use Rattle.std.proofs.Common.{◌≡◌, ℕ, ap, refl, subst, Ok, Err, Bool, Some, None}
+use Rattle.std.proofs.Common.{◌≡◌, ℕ, refl, subst, Ok, Err, Bool, Some, None}
 use Rattle.std.specs.Prelude.{Result}
 use Rattle.obj_memory.specs.declared.value.Place.{Place}
 use Rattle.obj_memory.specs.declared.value.Scalar.{Scalar}

@@ -1,5 +1,5 @@
 -- Where variables are kept, as code has it: the number of an object, or none.
-use Rattle.std.specs.Prelude.{ℕ, List, [], ◌∷◌, map, Option, Some, None, Result, Ok, Err}
+use Rattle.std.specs.Prelude.{ℕ, List, map, Option, Some, None, Result, Ok, Err}
 use Rattle.source_meaning.specs.State.{Home, NoObject, InObject}
 
 abbrev pub home_of : Option ℕ → Home

@@ -8,3 +8,4 @@ pub mod Performing
 pub mod Limits
 pub mod Variables
 pub mod Placing
+pub mod Storing

@@ -1,5 +1,5 @@
 -- The budgets of a run, and where its memory lies.
-use Rattle.std.specs.Prelude.{◌≡◌, ℕ}
+use Rattle.std.specs.Prelude.{◌≡◌}
 use Rattle.source_meaning.specs.State.{Setting}
 use Rattle.source_meaning.specs.Places.{heap_first, heap_last, stack_end}
 use Rattle.source_interp.specs.declared.limits.Limits.{Limits}

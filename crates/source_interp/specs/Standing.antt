@@ -1,5 +1,5 @@
 -- What an interpreter keeps of a state of a run, and when what its code did is what an action of the meaning does.
-use Rattle.std.specs.Prelude.{◌≡◌, ℕ, ◌+◌, ◌-◌, ◌^◌, min, List, length, Option, Some, None, Result, Ok, Err}
+use Rattle.std.specs.Prelude.{◌≡◌, ℕ, ◌+◌, ◌-◌, ◌^◌, min, List, length, Option, Result, Ok, Err}
 use Rattle.behaviours.specs.Shown.{Access}
 use Rattle.sb_base.specs.declared.ending.Ending.{Ending}
 use Rattle.sb_base.specs.declared.ending.Ending.TheVariants as ending

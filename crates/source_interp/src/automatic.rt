@@ -52,11 +52,11 @@ fn extent_of(top: u64, size: u64) -> Option<Extent>
     Some(Extent { start, end })
 }
 
-// The work of making an object of so many bytes.
-fn making(size: u64) -> Option<u64>
-    ensures { IfSome result (λ n. n ≡ 1 + size) }
+/// A number and one, where their sum fits.
+pub fn one_and(number: u64) -> Option<u64>
+    ensures { IfSome result (λ n. n ≡ 1 + number) }
 {
-    1u64.checked_add(size)
+    1u64.checked_add(number)
 }
 
 impl Machine {
@@ -79,7 +79,7 @@ impl Machine {
     fn make_automatic(&mut self, address: u64, size: u64) -> Result<usize, Stop>
         ensures { ActsAlone self.old self.new result (make_object Automatic address size) }
     {
-        match making(size) {
+        match one_and(size) {
             Some(work) => {
                 self.tally(work);
                 self.add_object(address, size)

@@ -1,21 +1,24 @@
 //! The actions of expressions: operands are taken from the values found so far, and what is found is left there.
 
 ghost use Rattle.std.specs.Prelude.{◌≡◌, ◌∷◌, Ok, OnOk};
-ghost use Rattle.source_meaning.specs.Actions.{operate};
+ghost use Rattle.source_meaning.specs.State.{done};
+ghost use Rattle.source_meaning.specs.Actions.{difference_value, operate};
 ghost use Rattle.source_meaning.specs.Calls.{first_of, rest_of};
 ghost use Rattle.interpreter_tasks.specs.Actions as action;
 ghost use Rattle.source_interp.specs.declared.machine.Machine.{Machine as OfMachine};
 ghost use Rattle.source_interp.specs.Performing.{Fails, PerformsAlone, PerformsTraced};
 ghost use Rattle.source_interp.specs.Standing.{ActsAlone};
 
+use crate::automatic::size_of;
 use crate::found::{Found, Values};
 use crate::machine::Machine;
-use crate::stop::{Cause, Stop};
+use crate::stop::{Cause, Fault, Stop};
 use crate::trace::Trace;
 use crate::update::Updating;
-use crate::value::{converted, integer, offset_value, operate, truth};
+use crate::value::{converted, difference_value, integer, offset_value, operate, truth};
 use c_tree::{Kind, OffsetForm};
 use obj_memory::{BinaryOperator, IntType, UnaryOperator, Value};
+use std::alloc::Global;
 
 /// A run, with the values that were found so far.
 #[derive(Drop)]
@@ -38,6 +41,17 @@ fn operated(
     match operate(operator, of, left, right) {
         Some(value) => Ok(value),
         None => Err(Stop::Ended(Cause::Divide, line)),
+    }
+}
+
+// The difference of two pointers.
+#[tactic(auto, using(crate::proofs::Evaluating::subtracting))]
+fn subtracted(size: u64, left: Value, right: Value) -> Result<Value, Stop>
+    ensures { (m : OfMachine) → ActsAlone m m result (done (difference_value size left right)) }
+{
+    match difference_value(size, left, right) {
+        Some(value) => Ok(value),
+        None => Err(Stop::Failed(Fault::Memory)),
     }
 }
 
@@ -180,6 +194,16 @@ impl Evaluation {
         self.leave(Found::plain(offset_value(form, size, left.value(), right.value())))
     }
 
+    /// They are pointers whose difference is sought (6.5.6 paragraph 9).
+    pub fn subtract(&mut self, size: u64) -> Result<(), Stop>
+        ensures { PerformsAlone self.old self.new result (action.Difference size) }
+    {
+        let right = self.take();
+        let left = self.take();
+        let value = subtracted(size, left.value(), right.value())?;
+        self.leave(Found::plain(value))
+    }
+
     /// The value found last is let go.
     pub fn drop_value(&mut self)
         ensures { PerformsAlone self.old self.new (Ok tt) action.Drop }
@@ -257,5 +281,61 @@ impl Evaluation {
             .machine
             .update_plain(updating, variable, right.value(), line)?;
         self.leave(Found::plain(value))
+    }
+
+    /// It is an argument or a result, of a structure with its contents (6.5.2.2 paragraph 4).
+    pub fn take_contents(&mut self, alloc: Global, kind: Kind, line: u32) -> Result<(), Stop>
+        ensures { PerformsAlone self.old self.new result (action.Take kind line) }
+    {
+        let value = self.take();
+        let taken = self.machine.take_value(alloc, kind, line, value)?;
+        self.leave(taken)
+    }
+
+    /// Some work is done.
+    pub fn count(&mut self, work: u64)
+        ensures { PerformsAlone self.old self.new (Ok tt) (action.Count work) }
+    {
+        self.machine.tally(work);
+    }
+
+    /// The object of a variable becomes zero (6.7.8 paragraph 21).
+    pub fn zero(&mut self, variable: usize) -> Result<(), Stop>
+        ensures { PerformsAlone self.old self.new result (action.Zero variable) }
+    {
+        self.machine.zero_variable(variable)
+    }
+
+    /// It is stored in a part of the object that the pointer found before it points to, which stays (6.7.8).
+    pub fn store_part<T: Trace>(
+        &mut self,
+        trace: &mut T,
+        kind: Kind,
+        offset: u64,
+        line: u32,
+    ) -> Result<(), Stop>
+        ensures { PerformsTraced self.old self.new (T.noted trace.old) (T.noted trace.new) result
+            (action.StorePart kind offset line) }
+    {
+        let value = self.take();
+        let object = self.values.last();
+        let place = object.narrowed(offset, size_of(kind));
+        self.machine
+            .write_rvalue(trace, kind, false, place, line, value)?;
+        Ok(())
+    }
+
+    /// The bytes of a literal are stored in the object that the pointer found last points to (6.7.8 paragraph 14).
+    pub fn store_literal<T: Trace>(
+        &mut self,
+        trace: &mut T,
+        offset: u64,
+        bytes: &[u8],
+    ) -> Result<(), Stop>
+        ensures { PerformsTraced self.old self.new (T.noted trace.old) (T.noted trace.new) result
+            (action.StoreLiteral offset bytes.now) }
+    {
+        let object = self.values.last();
+        self.machine.store_literal(trace, object, offset, bytes)
     }
 }

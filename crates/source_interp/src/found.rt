@@ -4,6 +4,7 @@ ghost use Rattle.std.specs.Prelude.{◌≡◌, List, [], ◌∷◌, Option, Some
 ghost use Rattle.obj_memory.specs.Objects.{ObjectState};
 ghost use Rattle.source_meaning.specs.State.{Rvalue};
 ghost use Rattle.source_meaning.specs.Actions.{integer};
+ghost use Rattle.source_meaning.specs.Calls.{first_of};
 ghost use Rattle.source_meaning.specs.Structures.{member_of, rvalue};
 ghost use Rattle.interpreter_objects.specs.Kept.{found_in};
 ghost use Rattle.source_interp.specs.Answers.{PopsTo, is_there};
@@ -128,6 +129,16 @@ impl Values {
     {
         self.items.push(value)?;
         Ok(())
+    }
+
+    /// The value found last without its contents, 0 where there is none.
+    pub fn last(&self) -> Value
+        ensures { result ≡ (first_of self.now).value }
+    {
+        match self.items.last() {
+            Some(found) => found.value,
+            None => integer(0),
+        }
     }
 
     /// The value found last, which is taken away, where there is one.

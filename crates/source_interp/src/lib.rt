@@ -4,9 +4,12 @@
 
 pub mod access;
 pub mod automatic;
+pub mod block;
 pub mod evaluation;
 pub mod found;
 pub mod homes;
+pub mod initializing;
+pub mod items;
 pub mod limits;
 pub mod machine;
 pub mod output;

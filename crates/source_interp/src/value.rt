@@ -1,9 +1,9 @@
 //! Values, and what operators make of them.
 
-ghost use Rattle.std.specs.Prelude.{◌≡◌, ℕ, ◌*◌, not};
+ghost use Rattle.std.specs.Prelude.{◌≡◌, ℕ, ◌*◌, not, IfSome};
 ghost use Rattle.source_meaning.specs.State.{State};
-ghost use Rattle.source_meaning.specs.Actions.{converted, given, integer, is_zero, moved_back, offset_value};
-ghost use Rattle.source_meaning.specs.Actions.{operate, updated};
+ghost use Rattle.source_meaning.specs.Actions.{converted, difference_value, given, integer, is_zero, moved_back};
+ghost use Rattle.source_meaning.specs.Actions.{offset_value, operate, updated};
 ghost use Rattle.obj_memory.specs.Judgement.{moved};
 ghost use Rattle.obj_memory.specs.Operators.{one_if};
 ghost use Rattle.source_interp.specs.Answers.{value_or_end};
@@ -63,6 +63,18 @@ pub fn offset_value(form: OffsetForm, size: u64, left: Value, right: Value) -> V
         OffsetForm::PointerPlusIndex => forward(size, left, right.word),
         OffsetForm::IndexPlusPointer => forward(size, right, left.word),
         OffsetForm::PointerMinusIndex => back(size, left, right.word),
+    }
+}
+
+/// The difference of two pointers in elements of some bytes (C99 6.5.6 paragraph 9), where these are not 0.
+#[tactic(auto, using(crate::proofs::Moves::differing))]
+pub fn difference_value(size: u64, left: Value, right: Value) -> Option<Value>
+    ensures { IfSome result (λ v. v ≡ difference_value size left right) }
+{
+    let bytes = left.word.wrapping_sub(right.word);
+    match BinaryOperator::Divide.apply(IntType::Long, bytes, size) {
+        Some(elements) => Some(integer(elements)),
+        None => None,
     }
 }
 

@@ -1,4 +1,4 @@
-use Rattle.interpreter_objects.proofs.Keeping.{kept_dead, kept_new, same_cleared, same_movable}
+use Rattle.interpreter_objects.proofs.Keeping.{kept_dead, kept_new, same_bytes_put, same_cleared, same_movable}
 use Rattle.interpreter_objects.proofs.Keeping.{same_moved, same_put, same_puttable, same_written}
 use Rattle.interpreter_objects.proofs.laws.kept_objects_change_alike.Goals as goal
 
@@ -25,3 +25,6 @@ returns-clause-put c = same_put
 
 pub returns-clause-cleared : goal.returns-clause-cleared
 returns-clause-cleared c = same_cleared
+
+pub returns-clause-bytes : goal.returns-clause-bytes
+returns-clause-bytes c = same_bytes_put

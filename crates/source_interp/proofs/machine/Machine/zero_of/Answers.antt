@@ -14,10 +14,10 @@ returns-in-Void c g o =
 
 pub returns-in-Scalar : goal.returns-in-Scalar
 returns-in-Scalar c g o =
-    zero_scalar g c.args.self.now o c.args.kind _ c.plain-in-Scalar.result c.in-Scalar.is (c.plain-in-Scalar.ensures ∙ ap rvalue
-    c.integer-in-Scalar.ensures)
+    zero_scalar g c.args.self.now o c.args.kind _ c.plain-in-Scalar.result c.in-Scalar.is
+    (c.plain-in-Scalar.ensures ∙ ap rvalue c.integer-in-Scalar.ensures)
 
 pub returns-in-Array : goal.returns-in-Array
 returns-in-Array c g o =
-    zero_array g c.args.self.now o c.args.kind _ c.plain-in-Array.result c.in-Array.is (c.plain-in-Array.ensures ∙ ap rvalue
-    c.integer-in-Array.ensures)
+    zero_array g c.args.self.now o c.args.kind _ c.plain-in-Array.result c.in-Array.is
+    (c.plain-in-Array.ensures ∙ ap rvalue c.integer-in-Array.ensures)

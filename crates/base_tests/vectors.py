@@ -87,6 +87,30 @@ REFUSED = [
     "build a.c a.elf --blocks 0", "build a.c a.elf --blocks 65537", "go a.c --keys 4611686018427387905",
 ]
 
+# Sources that `work SEED COUNT` compiles. The state behind the seed 0 is 1442695040888963407, whose highest 31 bits are 167951807: the
+# remainder modulo 4 is 3, and 2 more than the remainder of the quotient modulo 15 is 13. Behind 1 it is 7806831264735756412, with the
+# highest 31 bits 908834774, remainder 2 and then 5.
+STRUCTURE = "struct n{int v;struct n*q;};"
+SOURCES = {
+    (0, 1): (238, ["int g0(int a){return a*13+1;}", "int h0(int a){return a-13;}",
+                   "int f0(int a){int(*t[2])(int);int i;t[0]=g0;t[1]=h0;for(i=0;i<13;i++)a=t[i%2](a);return a;}",
+                   r'int main(void){int s=0;s=f0(s);printf("%d\n",s);return 0;}']),
+    (1, 1): (218, ["int f0(int a){char b[64];char c[64];int i;for(i=0;i<5;i++)b[i]=97+(a+i&15);strcpy(c,b);strcat(c,b);"
+                   "return strlen(c)+strcmp(b,c);}", r'int main(void){int s=1;s=f0(s);printf("%d\n",s);return 0;}']),
+}
+# Seeds and counts whose sources are made here, by the words of docs/FORMATS.md, from the functions of each template.
+LONG_SOURCES = [(7, 64), (2 ** 64 - 1, 64), (12345, 12)]
+TEMPLATES = [
+    ["int f{I}(int a){{struct n*h=0;int i;for(i=0;i<{K};i++){{struct n*m=malloc(sizeof(struct n));m->v=a+i;m->q=h;h=m;}}int s=0;"
+     "while(h){{struct n*m=h->q;s=s*3+h->v;free(h);h=m;}}return s;}}"],
+    ["int f{I}(int a){{int x[{K}][{K}];int i;int j;int s=0;for(i=0;i<{K};i++)for(j=0;j<{K};j++)x[i][j]=a+i*j;"
+     "for(i=0;i<{K};i++)for(j=0;j<{K};j++)s=s+x[i][j]*x[j][i];return s;}}"],
+    ["int f{I}(int a){{char b[64];char c[64];int i;for(i=0;i<{K};i++)b[i]=97+(a+i&15);strcpy(c,b);strcat(c,b);"
+     "return strlen(c)+strcmp(b,c);}}"],
+    ["int g{I}(int a){{return a*{K}+1;}}", "int h{I}(int a){{return a-{K};}}",
+     "int f{I}(int a){{int(*t[2])(int);int i;t[0]=g{I};t[1]=h{I};for(i=0;i<{K};i++)a=t[i%2](a);return a;}}"],
+]
+
 # The regions of a map with 10000 bytes of static objects, by the table in addr_map's documentation: these are three pages, so that object
 # space has 5255168 bytes: 1283 pages, whose entries take 21020672 bytes, and the first level with its cell 10272, which makes 5135
 # pages. There are 1 + 65536 + 16384 lock words.
@@ -170,6 +194,25 @@ def command_rows():
     yield "owned run a.elf", ['Ok(Run { image: "a.elf", limit: 1000000000 })']
 
 
+def long_source(seed, count):
+    """The lines of a source by the words of docs/FORMATS.md."""
+    lines, state = [STRUCTURE], seed
+    for number in range(count):
+        state = (6364136223846793005 * state + 1442695040888963407) % 2 ** 64
+        rest, template = divmod(state >> 33, 4)
+        lines += [line.format(I=number, K=2 + rest % 15) for line in TEMPLATES[template]]
+    calls = "".join(rf's=f{number}(s);printf("%d\n",s);' for number in range(count))
+    return lines + [f"int main(void){{int s={seed % 1000};{calls}return 0;}}"]
+
+
+def source_rows():
+    for (seed, count), (size, lines) in SOURCES.items():
+        yield f"work {seed} {count}", [f"{size} bytes", STRUCTURE, *lines]
+    for seed, count in LONG_SOURCES:
+        lines = long_source(seed, count)
+        yield f"work {seed} {count}", [f"{sum(len(line) + 1 for line in lines)} bytes", *lines]
+
+
 def map_rows():
     for number, (name, first, last) in enumerate(REGIONS):
         yield f"region 10000 {number}", [f"{name} {first:x} {last:x}"]
@@ -185,7 +228,7 @@ def main():
     if sys.argv[1:] != ["make"]:
         sys.exit(__doc__)
     here = os.path.dirname(os.path.abspath(__file__))
-    rows = [*budget_rows(), *ending_rows(), *command_rows(), *map_rows(), ("image", IMAGE), *OUTSIDE.items()]
+    rows = [*budget_rows(), *ending_rows(), *command_rows(), *source_rows(), *map_rows(), ("image", IMAGE), *OUTSIDE.items()]
     with open(os.path.join(here, "stdin"), "w") as f:
         f.writelines(row + "\n" for row, _ in rows)
     with open(os.path.join(here, "stdout"), "w") as f:

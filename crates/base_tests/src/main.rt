@@ -4,6 +4,7 @@
 //! - `budgets HEAP STACK CALLS BLOCKS KEYS`, `default`: the budgets, or the fault;
 //! - `exit CODE`, `ending NUMBER LINE`: the code of an ending, and its report before the dots that stood there;
 //! - `words WORDS`, `owned WORDS`, `nothing`: the command of the words;
+//! - `work SEED COUNT`: how many bytes the source has that this command compiles, and the source;
 //! - `map BYTES`, `region BYTES NUMBER`, `function NUMBER`: the map of so many bytes of static objects, the first and
 //!   the last address of a region, the address of a function;
 //! - `image`: an image that is written and read back;
@@ -42,6 +43,7 @@ fn put_row(rt: &HostRuntime, row: &str) -> Result<()> {
         Asked::Words => commands::put(rt, given),
         Asked::Owned => commands::put_owned(rt, given),
         Asked::Nothing => commands::put_nothing(rt),
+        Asked::Work => commands::put_work(rt, given),
         Asked::Map => regions::put_map(rt, given),
         Asked::Region => regions::put_region(rt, given),
         Asked::Function => regions::put_function(rt, given),

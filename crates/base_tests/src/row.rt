@@ -12,6 +12,7 @@ pub enum Asked {
     Words,
     Owned,
     Nothing,
+    Work,
     Map,
     Region,
     Function,
@@ -23,7 +24,7 @@ pub enum Asked {
     Host,
 }
 
-const WORDS: [(&str, Asked); 16] = [
+const WORDS: [(&str, Asked); 17] = [
     ("budgets", Asked::Budgets),
     ("default", Asked::Default),
     ("exit", Asked::Exit),
@@ -31,6 +32,7 @@ const WORDS: [(&str, Asked); 16] = [
     ("words", Asked::Words),
     ("owned", Asked::Owned),
     ("nothing", Asked::Nothing),
+    ("work", Asked::Work),
     ("map", Asked::Map),
     ("region", Asked::Region),
     ("function", Asked::Function),

@@ -2,3 +2,4 @@ pub mod Numbers
 pub mod Plain
 pub mod Matches
 pub mod Whole
+mod Congruence

@@ -13,8 +13,10 @@
 
 mod command;
 mod command_words;
+mod generator;
 mod number;
 mod program;
 
 pub use command::{Command, WordsFault};
 pub use command_words::command_of;
+pub use generator::work_source;

@@ -26,8 +26,10 @@ use Rattle.shadow_space.specs.Form.{EntryCode}
 use Rattle.shadow_space.specs.Start.{AreStartEntries, StartsShadow}
 use Rattle.runtime_functions.specs.declared.runtime.RuntimeFunction.{RuntimeFunction}
 use Rattle.runtime_functions.specs.Runtime.{runtime_list, AreOfRuntime}
+use Rattle.metadata_relation.specs.Blocks.{Expansion}
 use Rattle.metadata_relation.specs.FunctionTypes.{HaveTypeKeys}
 use Rattle.metadata_relation.specs.Homes.{homes}
+use Rattle.metadata_relation.specs.Laid.{program_of}
 use Rattle.metadata_relation.specs.StartData.{bytes_of_statics, entry_of_tag, entries_of_tags, entries_of_statics}
 use Rattle.metadata_relation.proofs.StartData.{are_start_entries}
 use Rattle.instruction_selection.specs.Covered.{IsCoveredCode, no_contents}
@@ -86,6 +88,18 @@ expanded_flat read write entry IsGood map code runtime program flat covered of_r
       };
       is = same ∙ ap propagated h.is;
     }
+
+-- it can be begun
+pub flat_begins : (read write : EntryCode) (entry : View) (IsGood : Bytes → Type 0) (map : MapSizes) (code : Tac)
+    (flat : FlatProgram) → IsExpandedFlat read write entry IsGood map code flat
+    → ((e : Expansion) (hs : CodeFunction → List ℕ) (fs : List FlatFunction) → IsStartable e.map (program_of e hs fs))
+    → ((m : MapSizes) (p : FlatProgram) → IsStartable m p → IsStartable m (propagated p)) → IsStartable map flat
+flat_begins read write entry IsGood map code flat h expanded carried =
+    let l = h.laid in
+    subst (IsStartable map) (sym h.is)
+    (carried map (program_of l.expansion l.homes l.runtime)
+    (subst (λ m. IsStartable m (program_of l.expansion l.homes l.runtime)) h.is_laid.is_expansion.map_is
+    (expanded l.expansion l.homes l.runtime)))
 
 -- ---- entries of static objects
 

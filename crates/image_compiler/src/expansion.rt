@@ -12,6 +12,8 @@ use addr_map::laws::{regions_stand_in_order, sizes_are_in_range};
 use addr_map::{AddrMap, Region};
 use flat_code::FlatProgram;
 use flat_propagation::propagate;
+use image_laws::laws::encoding::expanded_programs_are_startable;
+use image_laws::laws::propagation::propagated_programs_are_startable;
 use instruction_selection::covered::covers_all;
 use instruction_selection::start_data::{static_bytes, static_entries};
 use instruction_selection::type_keys::type_keys;
@@ -24,13 +26,13 @@ use rv_codegen::images::image_of;
 use shadow_space::ShadowForm;
 use std::alloc::{AllocError, Global};
 use tac_ir::Tac;
-use target_limits::{is_encodable, is_plannable, is_startable};
+use target_limits::{is_encodable, is_plannable};
 
 /// Why a program has no image by its expansion.
 #[derive(Clone, Copy, Debug)]
 pub enum ExpansionError {
     /// It is not compiled yet: an instruction of its checked code is not covered, its numbers are not within limits, or
-    /// its flat code cannot be encoded, begun, planned or placed.
+    /// its flat code cannot be encoded, planned or placed.
     NotCompiled,
     /// There is no memory.
     Memory,
@@ -82,7 +84,7 @@ fn flat_code<S: ShadowForm>(
     }
 }
 
-// The same, where the machine has instructions for it, can begin it, and it can be planned.
+// The same, where the machine has instructions for it, and it can be planned; the machine can begin it.
 fn tested_code<S: ShadowForm>(
     alloc: Global,
     map: &AddrMap,
@@ -90,8 +92,10 @@ fn tested_code<S: ShadowForm>(
 ) -> Result<FlatProgram, ExpansionError>
     ensures { IfOk result (IsTestedFlat S.entry_read S.entry_write S.entry (S.IsGood map.now) map.now code.now) }
 {
+    expanded_programs_are_startable();
+    propagated_programs_are_startable();
     let flat = flat_code::<S>(alloc, map, code)?;
-    if is_encodable(&flat) && is_startable(map, &flat) && is_plannable(alloc, &flat)? {
+    if is_encodable(&flat) && is_plannable(alloc, &flat)? {
         Ok(flat)
     } else {
         Err(ExpansionError::NotCompiled)

@@ -169,13 +169,17 @@ def write_bytes(s, new, place):
     s.objects[n].bytes[offset:offset + len(new)] = new
 
 
-def read_value(s, scalar, place):
-    number = int.from_bytes(bytes_at(s, scalar_size(scalar), place), "little")
+def scalar_in(o, scalar, offset):
+    """Of an object, or of contents."""
+    number = int.from_bytes(o.bytes[offset:offset + scalar_size(scalar)], "little")
     if scalar != POINTER:
         return Value(fit(scalar, number))
+    return Value(number, o.tags[offset // 8] if offset % 8 == 0 and offset // 8 < len(o.tags) else None)
+
+
+def read_value(s, scalar, place):
     n, offset = place
-    tags = s.objects[n].tags
-    return Value(number, tags[offset // 8] if offset % 8 == 0 and offset // 8 < len(tags) else None)
+    return scalar_in(s.objects[n], scalar, offset)
 
 
 def write_value(s, scalar, v, place):
@@ -185,16 +189,20 @@ def write_value(s, scalar, v, place):
         s.objects[n].tags[offset // 8] = v.tag
 
 
-def move_range(s, size, destination, source):
-    (d, to), (n, at) = destination, source
-    o, tags = s.objects[d], list(s.objects[n].tags)
-    new = bytes_at(s, size, source)
+def moved_into(size, to, at, source, o):
+    """Bytes of an object or of contents into another, with the tags of whole words where both are equal modulo 8."""
+    new, tags = bytes(source.bytes[at:at + size]), list(source.tags)
     if to % 8 == at % 8:
         for word in range(len(o.tags)):
             if to <= 8 * word and 8 * word + 8 <= to + size:
                 from_word = (8 * word - to + at) // 8
                 o.tags[word] = tags[from_word] if from_word < len(tags) else None
-    write_bytes(s, new, destination)
+    o.bytes[to:to + size] = new
+
+
+def move_range(s, size, destination, source):
+    (d, to), (n, at) = destination, source
+    moved_into(size, to, at, s.objects[n], s.objects[d])
 
 
 def move_bytes(s, size, destination, source):
@@ -231,6 +239,40 @@ def copy_structure(s, size, is_judged, p, line, v):
     destination = located(s, is_judged, size, p, line)
     source = located(s, False, size, v, line)
     move_bytes(s, size, destination, source)
+
+
+# ---- structures by value: contents are like an object that has no place
+
+def zero_contents(size):
+    return Object("automatic", 0, size, None)
+
+
+def contents_of(size, at, source):
+    contents = zero_contents(size)
+    moved_into(size, 0, at, source, contents)
+    return contents
+
+
+def make_zero(s, size):
+    s.tally(size)
+    return zero_contents(size)
+
+
+def taken(s, size, v, line):
+    n, offset = located(s, False, size, v, line)
+    s.tally(size)
+    return contents_of(size, offset, s.objects[n])
+
+
+def taken_part(s, contents, size, offset):
+    s.tally(size)
+    return contents_of(size, offset, contents)
+
+
+def put_contents(s, contents, size, p, line, offset):
+    n, at = located(s, False, size, p, line)
+    s.tally(size)
+    moved_into(size, at, offset, contents, s.objects[n])
 
 
 # ---- memory

@@ -16,6 +16,26 @@ class Number:
         self.value = value
 
 
+class Area:
+    """An operand that is where an area begins, behind the first address of the space of structure values."""
+
+    def __init__(self, offset):
+        self.offset = offset
+
+    def text(self):
+        return f"area{self.offset:x}"
+
+
+class PartOfContents:
+    """The registers of a part of contents in an area, from an offset on."""
+
+    def __init__(self, area, offset, size):
+        self.area, self.offset, self.size = area, offset, size
+
+    def text(self):
+        return f"part{self.offset:x}/{self.area.offset:x}/{self.size:x}"
+
+
 class Part:
     """A word of a row that is a part of the code."""
 
@@ -24,7 +44,7 @@ class Part:
 
 
 class Given:
-    """What a run gives: nothing, a word, a pointer, or a block from an address to another."""
+    """What a run gives: nothing, a word, a pointer, a block from an address to another, contents, or a part of some."""
 
     def __init__(self, kind, value=None, end=None):
         self.kind, self.value, self.end = kind, value, end
@@ -39,6 +59,10 @@ def word(value):
 
 def pointer(value):
     return Given("pointer", value)
+
+
+def contents(value):
+    return Given("contents", value)
 
 
 class Scene:
@@ -102,6 +126,8 @@ class Scene:
             return f"{operand.word:x}/{tag}"
         if isinstance(operand, Number):
             return f"{operand.value % model.WORD:x}"
+        if isinstance(operand, (Area, PartOfContents)):
+            return operand.text()
         return operand.text
 
     def given_text(self, state, given):
@@ -111,6 +137,13 @@ class Scene:
             return f" {given.value % model.WORD:x}"
         if given.kind == "pointer":
             return f" {given.value.word:x}/{self.tag_text(state, given.value.tag)}"
+        if given.kind == "contents":
+            tags = "".join(f" {self.tag_text(state, tag)}" for tag in given.value.tags)
+            return f" {bytes(given.value.bytes).hex()}{tags}"
+        if given.kind == "part":
+            # behind the offset and the area how far its entries are behind that, and no lock word
+            part = given.value
+            return f" part{part.offset:x}/{part.area.offset:x}/{model.rounded_up(8, part.size):x}/0"
         tag = self.tag_text(state, OfObject(len(self.state.objects), given.value, given.end))
         return f" {given.value:x}..{given.end:x}/{tag}"
 

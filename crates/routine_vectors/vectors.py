@@ -7,21 +7,36 @@ import sys
 
 import model
 from model import POINTER, Function, Value
-from row import NOTHING, Given, Number, Part, Scene, pointer, word
+from row import NOTHING, Area, Given, Number, Part, PartOfContents, Scene, contents, pointer, word
 
 LINE = 7
-# steps that docs/PROMISES.md allows: a constant, and a factor for each unit of the source's work
+# steps that the routines' clauses allow: a constant, and a factor for each unit of the source's work, each byte or each
+# digit; bench/routine_steps.py holds them against the definitions
 PROMISES = {
-    "memmove": (66, 16), "memset": (24, 5), "copy_structure": (41, 16), "strlen": (17, 8), "puts": (21, 8),
+    "memmove": (66, 16), "memcpy": (66, 16), "memset": (24, 5), "copy_structure": (41, 16), "strlen": (17, 8), "puts": (21, 8),
     "strcpy": (49, 8), "strcat": (65, 8), "strncpy": (60, 8), "strchr": (20, 6), "strcmp": (24, 5),
     "memcmp": (26, 4), "malloc": (60, 20), "calloc": (70, 20), "free": (20, 26), "realloc": (100, 30),
     "enter": (100, 40), "leave": (11, 0), "scan": (16, 8), "scan_at_most": (16, 8), "spatial_check": (5, 0),
-    "spatial_check_of_number": (5, 0), "temporal_check": (3, 0)}
+    "spatial_check_of_number": (5, 0), "temporal_check": (3, 0), "make_zero": (16, 5), "take_structure": (48, 16),
+    "put_structure": (40, 16), "take_part": (48, 16), "move_bytes": (16, 7), "move_tagged": (40, 16), "fill": (8, 5),
+    "zero": (16, 4), "put_bytes": (2, 5), "number": (12, 15), "digits": (4, 15), "forward": (7, 0), "back": (7, 0),
+    "difference": (7, 0), "narrow": (8, 0)}
+# of an integer, and of a pointer
+ACCESSES = {"load": (1, 21), "store": (1, 27), "checked_load": (9, 29), "checked_store": (9, 35), "read_part": (1, 20)}
+# of a format: a constant, for each piece and for each unit of the work
+PRINTED = (4, 32, 16)
+# the instructions that hand a pointer over
+HANDED = 5
 
 
 def promised(name):
     constant, factor = PROMISES[name]
     return lambda work: constant + factor * work
+
+
+def promised_by_kind(name, scalar):
+    steps = ACCESSES[name][scalar == POINTER]
+    return lambda work: steps
 
 
 def pattern(seed, size):
@@ -37,6 +52,12 @@ def string(seed, length):
 
 def memmove(scene, d, source, size, line=LINE):
     scene.perform("memmove", line, promised("memmove"), [d, source, Number(size)],
+                  lambda s: pointer(model.memmove(s, d, source, size, line)))
+
+
+def memcpy(scene, d, source, size, line=LINE):
+    """Here as memmove."""
+    scene.perform("memcpy", line, promised("memcpy"), [d, source, Number(size)],
                   lambda s: pointer(model.memmove(s, d, source, size, line)))
 
 
@@ -58,13 +79,13 @@ def copy_structure(scene, d, source, size):
     scene.perform("copy_structure", LINE, promised("copy_structure"), [d, source, Number(size)], run)
 
 
-def of_range(scene, name, constant, factor, size, operands, run):
+def of_range(scene, name, size, operands, run):
     """A routine on memory alone, whose promise is by the bytes."""
     def ran(s):
         run(s)
         return NOTHING
 
-    scene.perform(name, LINE, lambda work: constant + factor * size, operands, ran)
+    scene.perform(name, LINE, lambda work: promised(name)(size), operands, ran)
 
 
 def move_bytes(scene, to, at, size):
@@ -74,16 +95,16 @@ def move_bytes(scene, to, at, size):
         for o, old in zip(s.objects, tags):
             o.tags = old
 
-    of_range(scene, "move_bytes", 16, 7, size, [address(scene, to), address(scene, at), Number(size)], run)
+    of_range(scene, "move_bytes", size, [address(scene, to), address(scene, at), Number(size)], run)
 
 
 def move_tagged(scene, to, at, size):
-    of_range(scene, "move_tagged", 40, 16, size, [address(scene, to), address(scene, at), Number(size)],
+    of_range(scene, "move_tagged", size, [address(scene, to), address(scene, at), Number(size)],
              lambda s: model.move_range(s, size, to, at))
 
 
 def fill(scene, to, byte, size):
-    of_range(scene, "fill", 8, 5, size, [address(scene, to), Number(byte), Number(size)],
+    of_range(scene, "fill", size, [address(scene, to), Number(byte), Number(size)],
              lambda s: model.write_bytes(s, bytes([byte % 256]) * size, to))
 
 
@@ -137,7 +158,7 @@ def puts(scene, p, line=LINE):
 def put_bytes(scene, place, size):
     number, offset = place
     first = scene.state.objects[number].address + offset
-    of_range(scene, "put_bytes", 2, 5, size, [Number(first), Number(first + size)],
+    of_range(scene, "put_bytes", size, [Number(first), Number(first + size)],
              lambda s: model.put_bytes(s, model.bytes_at(s, size, place)))
 
 
@@ -150,7 +171,8 @@ def printf(scene, pieces, line=LINE):
         else:
             directive, value = piece
             operands += [Part(f"%{directive}"), value if directive == "s" else Number(value.word)]
-    scene.perform("printf", line, lambda work: 4 + 32 * len(pieces) + 16 * work, operands,
+    constant, each, factor = PRINTED
+    scene.perform("printf", line, lambda work: constant + each * len(pieces) + factor * work, operands,
                   lambda s: word(model.print_formatted(s, pieces, line).word))
 
 
@@ -161,7 +183,7 @@ def number(scene, directive, value):
         model.put_bytes(s, new)
         return word(len(new))
 
-    scene.perform("number", LINE, lambda work: 12 + 15 * work, [Part(f"%{directive}"), Number(value)], run)
+    scene.perform("number", LINE, promised("number"), [Part(f"%{directive}"), Number(value)], run)
 
 
 def digits(scene, value, base):
@@ -170,7 +192,7 @@ def digits(scene, value, base):
         model.put_bytes(s, new)
         return word(len(new))
 
-    scene.perform("digits", LINE, lambda work: 12 + 15 * work, [Number(value), Number(base)], run)
+    scene.perform("digits", LINE, promised("digits"), [Number(value), Number(base)], run)
 
 
 def load(scene, scalar, p, is_judged, line=LINE):
@@ -178,9 +200,8 @@ def load(scene, scalar, p, is_judged, line=LINE):
         v = model.load(s, scalar, is_judged, p, line)
         return pointer(v) if scalar == POINTER else word(v.word)
 
-    steps = (21 if scalar == POINTER else 1) + (8 if is_judged else 0)
-    scene.perform("checked_load" if is_judged else "load", line, lambda work: steps, of(scalar) + [p], run,
-                  is_of_program=True)
+    name = "checked_load" if is_judged else "load"
+    scene.perform(name, line, promised_by_kind(name, scalar), of(scalar) + [p], run, is_of_program=True)
 
 
 def store(scene, scalar, p, v, is_judged, line=LINE, is_kept=False):
@@ -188,10 +209,10 @@ def store(scene, scalar, p, v, is_judged, line=LINE, is_kept=False):
         model.store(s, scalar, is_judged, p, line, v)
         return NOTHING
 
-    steps = (27 if scalar == POINTER else 1) + (8 if is_judged else 0)
+    name = "checked_store" if is_judged else "store"
     value = v if scalar == POINTER else Number(v.word)
-    scene.perform("checked_store" if is_judged else "store", line, lambda work: steps, of(scalar) + [p, value], run,
-                  is_of_program=True, is_kept=is_kept)
+    scene.perform(name, line, promised_by_kind(name, scalar), of(scalar) + [p, value], run, is_of_program=True,
+                  is_kept=is_kept)
 
 
 def of(scalar):
@@ -216,23 +237,67 @@ def temporal_check(scene, p, line=LINE):
 
 
 def narrow(scene, p, offset, size):
-    """With five instructions that hand the pointer over."""
-    scene.perform("narrow", LINE, lambda work: 13, [p, Number(offset), Number(size)],
+    """With the instructions that hand the pointer over."""
+    scene.perform("narrow", LINE, lambda work: HANDED + promised("narrow")(work), [p, Number(offset), Number(size)],
                   lambda s: pointer(model.narrowed(offset, size, p)), is_of_program=True)
 
 
 def offsets(scene, address, index, size):
-    """Elements forward and back, in as many instructions as a size of 64 bits takes, and two."""
+    """Elements forward and back."""
     operands = [Number(address), Number(index), Number(size)]
-    scene.perform("forward", LINE, lambda work: 10, operands,
+    scene.perform("forward", LINE, promised("forward"), operands,
                   lambda s: word((address + index * size) % model.WORD), is_of_program=True)
-    scene.perform("back", LINE, lambda work: 10, operands,
+    scene.perform("back", LINE, promised("back"), operands,
                   lambda s: word((address - index * size) % model.WORD), is_of_program=True)
 
 
 def difference(scene, left, right, size):
-    scene.perform("difference", LINE, lambda work: 10, [Number(left), Number(right), Number(size)],
+    scene.perform("difference", LINE, promised("difference"), [Number(left), Number(right), Number(size)],
                   lambda s: word(model.difference(size, left, right)), is_of_program=True)
+
+
+def make_zero(scene, area, size):
+    return scene.perform("make_zero", LINE, promised("make_zero"), [area, Number(size)],
+                         lambda s: contents(model.make_zero(s, size)))
+
+
+def take_structure(scene, area, p, size, is_kept=False):
+    """Gives the contents, which stay in the area where the row is kept."""
+    given = scene.perform("take_structure", LINE, promised("take_structure"), [area, Number(p.word), Number(size)],
+                          lambda s: contents(model.taken(s, size, p, LINE)), is_kept)
+    return given.value
+
+
+def take_part(scene, to, area, whole, offset, size, is_kept=False):
+    given = scene.perform("take_part", LINE, promised("take_part"),
+                          [to, PartOfContents(area, offset, whole.size), Number(size)],
+                          lambda s: contents(model.taken_part(s, whole, size, offset)), is_kept)
+    return given.value
+
+
+def put_structure(scene, p, area, whole, offset, size):
+    def run(s):
+        model.put_contents(s, whole, size, p, LINE, offset)
+        return NOTHING
+
+    scene.perform("put_structure", LINE, promised("put_structure"),
+                  [Number(p.word), PartOfContents(area, offset, whole.size), Number(size)], run)
+
+
+def read_part(scene, scalar, area, whole, offset):
+    def run(s):
+        v = model.scalar_in(whole, scalar, offset)
+        return pointer(v) if scalar == POINTER else word(v.word)
+
+    scene.perform("read_part", LINE, promised_by_kind("read_part", scalar),
+                  of(scalar) + [PartOfContents(area, offset, whole.size)], run, is_of_program=True)
+
+
+def narrow_part(scene, area, whole, offset, member, size):
+    """With the instructions that hand the part over."""
+    scene.perform("narrow_part", LINE, lambda work: HANDED + promised("narrow")(work),
+                  [PartOfContents(area, offset, whole.size), Number(member), Number(size)],
+                  lambda s: Given("part", PartOfContents(area, offset + member, whole.size)), is_of_program=True)
 
 
 def malloc(scene, size, line=LINE, is_kept=False):
@@ -279,7 +344,7 @@ def leave(scene, numbers, top, is_kept=False):
 
 def zero(scene, n):
     o = scene.state.objects[n]
-    of_range(scene, "zero", 16, 4, o.size, [Number(o.address), Number(o.size)], lambda s: model.with_zeroed(s, n))
+    of_range(scene, "zero", o.size, [Number(o.address), Number(o.size)], lambda s: model.with_zeroed(s, n))
 
 
 # ---- what the scenes begin with
@@ -734,7 +799,88 @@ def pointers():
     return scene
 
 
-SCENES = [ranges, strings, accesses, blocks, heap, few_blocks, all_pages, pointers]
+FIRST_AREA, SECOND_AREA, LAST_AREA = Area(0), Area(0x400), Area(4096 - 88 - 32 * 11)
+
+
+def taken_contents(scene):
+    """Structures of all sizes at words and elsewhere, over ends of pages, with pointers to live and dead objects."""
+    for size in range(1, 42):
+        take_structure(scene, FIRST_AREA, scene.to(LEFT, 8 * (size % 3)), size)
+        take_structure(scene, SECOND_AREA, scene.to(HEAP, size % 11), size)
+    for n in (START, SHORT, LAST, PAGES, LEFT, RIGHT, FIRST_OF_BLOCK, SECOND_OF_BLOCK, HEAP, AGAIN):
+        take_structure(scene, LAST_AREA, scene.to(n), min(88, scene.state.objects[n].size))
+    take_structure(scene, FIRST_AREA, scene.to(LEFT, 40), 0)
+    for size in (0, 1, 7, 8, 9, 15, 16, 40, 88):
+        make_zero(scene, FIRST_AREA, size)
+
+
+def put_parts(scene, area, whole):
+    """Parts put to words and elsewhere, where both places are equal modulo 8 and where they are not."""
+    for size in range(1, 42):
+        k = size % 8
+        put_structure(scene, scene.to(RIGHT, 8 + k), area, whole, k, size)
+        put_structure(scene, scene.to(PAGES, 8 * (size % 5)), area, whole, 8 * (size % 6), size)
+        put_structure(scene, scene.to(RIGHT, size), area, whole, (3 * size) % 40, size)
+    put_structure(scene, scene.to(RIGHT), area, whole, 0, whole.size)
+    put_structure(scene, scene.to(HEAP, 12), area, whole, 4, whole.size - 4)
+    put_structure(scene, scene.to(RIGHT, 8), area, whole, 16, 0)
+
+
+def take_parts(scene, area, whole):
+    """Parts taken to another area and to the beginning of their own."""
+    for size in range(1, 42):
+        take_part(scene, SECOND_AREA, area, whole, 8 * (size % 6), size)
+        take_part(scene, area, area, whole, (5 * size) % 40, size)
+    for offset in (0, 8, 1, 87, 88):
+        take_part(scene, area, area, whole, offset, whole.size - offset)
+        take_part(scene, LAST_AREA, area, whole, offset, whole.size - offset)
+
+
+def read_parts(scene, area, whole):
+    for scalar in list(model.INTEGERS) + [POINTER]:
+        last = whole.size - model.scalar_size(scalar)
+        for offset in sorted({0, 1, 7, 8, 16, 20, 33, 64, last - 1, last}):
+            read_part(scene, scalar, area, whole, offset)
+    for offset in range(0, whole.size - 8, 8):
+        read_part(scene, POINTER, area, whole, offset)
+    for offset, member, size in ((0, 0, 88), (0, 8, 16), (8, 72, 8), (3, 5, 1), (16, 72, 0), (0, 88, 0)):
+        narrow_part(scene, area, whole, offset, member, size)
+
+
+def structures():
+    """Contents of structures in areas, those of each kind beside others that stay."""
+    scene = filled()
+    taken_contents(scene)
+    for n, area in ((LEFT, FIRST_AREA), (PAGES, LAST_AREA)):
+        whole = take_structure(scene, area, scene.to(n), 88, is_kept=True)
+        put_parts(scene, area, whole)
+        take_parts(scene, area, whole)
+        read_parts(scene, area, whole)
+        make_zero(scene, area, 88)
+    # a part stays at the beginning of its own area, with no entries and with those of whole words
+    for offset in (3, 8):
+        whole = take_structure(scene, SECOND_AREA, scene.to(HEAP), 88, is_kept=True)
+        part = take_part(scene, SECOND_AREA, SECOND_AREA, whole, offset, 50, is_kept=True)
+        put_structure(scene, scene.to(RIGHT, 16), SECOND_AREA, part, 0, 50)
+        take_part(scene, SECOND_AREA, SECOND_AREA, part, 8, 42)
+        for at in range(0, 43, 6):
+            read_part(scene, POINTER, SECOND_AREA, part, at)
+    return scene
+
+
+def copied_ranges():
+    scene = filled()
+    for size in range(41):
+        memcpy(scene, scene.to(RIGHT, size % 10 + 8), scene.to(LEFT, (3 * size) % 10), size, LINE + size)
+    memcpy(scene, scene.to(LEFT, 8), scene.to(LEFT), 40)
+    memcpy(scene, scene.to(LEFT), scene.to(LEFT, 8), 40)
+    for index, bad in enumerate(refused(scene)):
+        memcpy(scene, bad, scene.to(LEFT), 9 - index % 2 * 9)
+        memcpy(scene, scene.to(LEFT), bad, 9)
+    return scene
+
+
+SCENES = [ranges, strings, accesses, blocks, heap, few_blocks, all_pages, pointers, structures, copied_ranges]
 
 
 def make():

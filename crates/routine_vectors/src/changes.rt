@@ -118,12 +118,13 @@ pub fn write_lives(
 }
 
 /// Writes what changed in the spaces of the runtime: how many keys were made, the live blocks, how many lock words are
-/// held, and whether a byte behind them is another one.
+/// held, and whether a byte behind them and outside of an area is another one.
 pub fn write_spaces(
     text: &mut String,
     map: &AddrMap,
     before: &Memory,
     after: &Memory,
+    area: Option<(u64, u64)>,
 ) -> Result<(), AllocError> {
     let (counter, _) = map.region(Region::FreeLocks);
     if before.word(counter) != after.word(counter) {
@@ -132,11 +133,20 @@ pub fn write_spaces(
     write_blocks(text, map, before, after)?;
     write_locks(text, map, before, after)?;
     let (behind, _) = map.region(Region::StructureValues);
-    let first = behind.saturating_sub(SPACES) as usize;
-    if before.spaces.get(first..) != after.spaces.get(first..) {
+    if !are_same_behind(behind, before, after, area) {
         text.push_str(" behind")?;
     }
     Ok(())
+}
+
+// Whether the bytes from an address on are the same outside of an area.
+fn are_same_behind(start: u64, before: &Memory, after: &Memory, area: Option<(u64, u64)>) -> bool {
+    let (first, end) = area.unwrap_or((start, start));
+    let start = start.saturating_sub(SPACES) as usize;
+    let first = first.saturating_sub(SPACES) as usize;
+    let end = end.saturating_sub(SPACES) as usize;
+    before.spaces.get(start..first) == after.spaces.get(start..first)
+        && before.spaces.get(end..) == after.spaces.get(end..)
 }
 
 // Writes how many lock words hold a key where that is another number.

@@ -5,7 +5,8 @@ ghost use Rattle.addr_map.specs.Places.{AreMapped};
 ghost use Rattle.lib_wrappers.specs.PrintingRoutines.Printed.{ArePrintable};
 
 use crate::routine::{
-    Accessing, Allocating, Moving, Piece, Pointing, Putting, Routine, RoutineCall, Strings, Testing,
+    Accessing, Allocating, Contents, Moving, Piece, Pointing, Putting, Routine, RoutineCall,
+    Strings, Testing,
 };
 use addr_map::AddrMap;
 use c_tree::Directive;
@@ -17,6 +18,7 @@ use lib_wrappers::accesses::{
     HeldScalar, checked_load, checked_store, load, spatial_check, store, temporal_check,
 };
 use lib_wrappers::allocating::{EntryRegisters, calloc, enter, free, leave, malloc, realloc, zero};
+use lib_wrappers::areas::{make_zero, put_structure, read_part, take_part, take_structure};
 use lib_wrappers::comparing::{RangeRegisters, memcmp, strchr, strcmp};
 use lib_wrappers::moving::{
     CopyRegisters, FillRegisters, copy_structure, fill, memmove, memset, move_bytes, move_tagged,
@@ -116,6 +118,7 @@ pub fn code_of<S: ShadowForm>(
         Routine::Accessing(accessing) => accessing_code::<S>(alloc, map, accessing, call),
         Routine::Testing(testing) => testing_code(alloc, testing, call),
         Routine::Pointing(pointing) => pointing_code(alloc, pointing, call.number),
+        Routine::Contents(contents) => contents_code::<S>(alloc, map, contents, call),
         Routine::Allocating(allocating) => allocating_code::<S>(alloc, map, allocating, call),
     }
 }
@@ -130,7 +133,7 @@ fn moving_code<S: ShadowForm>(
 {
     let line = line_of(call.line);
     match moving {
-        Moving::Memmove => memmove::<S>(alloc, map, COPY, line, SCRATCH),
+        Moving::Memmove | Moving::Memcpy => memmove::<S>(alloc, map, COPY, line, SCRATCH),
         Moving::Memset => memset::<S>(alloc, map, RANGE, line, SCRATCH),
         Moving::CopyStructure => {
             copy_structure::<S>(alloc, map, FIRST, SECOND, call.number, SCRATCH)
@@ -335,13 +338,35 @@ fn pointing_code(
     Ok(code)
 }
 
-// The first pointer is narrowed in the registers of the result, by an offset and a size in registers.
+// The first pointer, or part of contents, is narrowed in the registers of the result, by an offset and a size in
+// registers.
 fn narrow_code(alloc: Global) -> Result<Vec<FlatInstruction>, AllocError> {
     let copy = give_instructions(alloc, FIRST, RESULT)?;
     let offset = RightOperand::Register(5);
     let size = RightOperand::Register(THIRD);
     let narrow = narrow(alloc, RESULT, offset, size, SCRATCH)?;
     joined(alloc, &copy, &narrow)
+}
+
+fn contents_code<S: ShadowForm>(
+    alloc: Global,
+    map: &AddrMap,
+    contents: Contents,
+    call: &RoutineCall,
+) -> Result<Vec<FlatInstruction>, AllocError>
+    requires map { AreMapped map.now }
+{
+    match contents {
+        Contents::MakeZero => make_zero::<S>(alloc, map, 0, 5, SCRATCH),
+        Contents::TakeStructure => take_structure::<S>(alloc, map, 0, 5, THIRD, SCRATCH),
+        Contents::PutStructure => put_structure::<S>(alloc, map, 0, SECOND, THIRD, SCRATCH),
+        Contents::TakePart => take_part::<S>(alloc, map, 0, SECOND, THIRD, SCRATCH),
+        Contents::ReadPart => match call.of {
+            Some(of) => read_part(alloc, FIRST, HeldScalar::Integer(of, 30), SCRATCH),
+            None => read_part(alloc, FIRST, HeldScalar::Pointer(RESULT), SCRATCH),
+        },
+        Contents::NarrowPart => narrow_code(alloc),
+    }
 }
 
 fn allocating_code<S: ShadowForm>(

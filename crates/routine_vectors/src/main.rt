@@ -9,14 +9,17 @@
 //! - `row NAME LINE LIMIT OPERANDS` or `keep NAME LINE LIMIT OPERANDS`: a routine, at a line of a source, that may
 //!   take so many steps; with `keep` what comes later begins with what it left.
 //!
-//! Operands stand in registers, five for each: a number, a pointer `ADDRESS/TAG`, or `lockN`, the lock word of
-//! object N. Others are parts of the code: `:TYPE`, `%DIRECTIVE`, and `.BYTE`. A tag is `-`, `NUMBER/BASE/BOUND` or
-//! `fn/ADDRESS/TYPE`. All numbers are hexadecimal.
+//! Operands stand in registers, five for each: a number, a pointer `ADDRESS/TAG`, `lockN`, the lock word of object N,
+//! `areaOFFSET`, an area by how far it stands behind the first address of the space of structure values, or
+//! `partOFFSET/AREA/SIZE`, a part of the contents of so many bytes there. Others are parts of the code: `:TYPE`,
+//! `%DIRECTIVE`, and `.BYTE`. A tag is `-`, `NUMBER/BASE/BOUND` or `fn/ADDRESS/TYPE`. All numbers are hexadecimal.
 //!
-//! Of each row a line tells how the run was left, what it gave and showed, whether its steps are as few as
-//! promised, and each byte of object space, each tag of a live object and each key, block and life that changed.
-//! Where the two forms differ there are two lines. What may be a function of the runtime is run as one too, made of
-//! the routine at the first line of a source and called at the row's, and told once more where that differs.
+//! Of each row a line tells how the run was left, what it gave (of contents all bytes and tags) and showed, whether
+//! its steps are as few as promised, and each byte of object space, each tag of a live object and each key, block and
+//! life that changed; of a run that ended each such byte.
+//! Where the two forms differ there are two lines. What may be a function of the runtime is run as one too, that of
+//! the fixed list or else one made of the routine at the first line of a source, called at the row's line, and told
+//! once more where that differs.
 //!
 //! `stdin` and `stdout` are made by `vectors.py` beside them: what must be told comes from a model of the source's
 //! objects.

@@ -122,6 +122,11 @@ impl Objects {
     }
 }
 
+/// So many bytes in whole words of 8.
+pub fn whole_words(size: u64) -> u64 {
+    (size.wrapping_add(7) / 8).wrapping_mul(8)
+}
+
 /// The number of hexadecimal digits.
 pub fn hexadecimal(digits: &str) -> Option<u64> {
     u64::from_str_radix(digits, 16).ok()

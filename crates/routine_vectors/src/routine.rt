@@ -7,6 +7,7 @@ use obj_memory::IntType;
 #[derive(Clone, Copy)]
 pub enum Moving {
     Memmove,
+    Memcpy,
     Memset,
     CopyStructure,
     MoveBytes,
@@ -64,6 +65,17 @@ pub enum Pointing {
     Difference,
 }
 
+/// Contents of structures in areas: made, put to objects, moved, read, and narrowed to a member.
+#[derive(Clone, Copy)]
+pub enum Contents {
+    MakeZero,
+    TakeStructure,
+    PutStructure,
+    TakePart,
+    ReadPart,
+    NarrowPart,
+}
+
 /// Births and deaths of objects, and zeroing.
 #[derive(Clone, Copy)]
 pub enum Allocating {
@@ -85,11 +97,13 @@ pub enum Routine {
     Accessing(Accessing),
     Testing(Testing),
     Pointing(Pointing),
+    Contents(Contents),
     Allocating(Allocating),
 }
 
-const ROUTINES: [(&str, Routine); 38] = [
+const ROUTINES: [(&str, Routine); 45] = [
     ("memmove", Routine::Moving(Moving::Memmove)),
+    ("memcpy", Routine::Moving(Moving::Memcpy)),
     ("memset", Routine::Moving(Moving::Memset)),
     ("copy_structure", Routine::Moving(Moving::CopyStructure)),
     ("move_bytes", Routine::Moving(Moving::MoveBytes)),
@@ -123,6 +137,12 @@ const ROUTINES: [(&str, Routine); 38] = [
     ("forward", Routine::Pointing(Pointing::Forward)),
     ("back", Routine::Pointing(Pointing::Back)),
     ("difference", Routine::Pointing(Pointing::Difference)),
+    ("make_zero", Routine::Contents(Contents::MakeZero)),
+    ("take_structure", Routine::Contents(Contents::TakeStructure)),
+    ("put_structure", Routine::Contents(Contents::PutStructure)),
+    ("take_part", Routine::Contents(Contents::TakePart)),
+    ("read_part", Routine::Contents(Contents::ReadPart)),
+    ("narrow_part", Routine::Contents(Contents::NarrowPart)),
     ("malloc", Routine::Allocating(Allocating::Malloc)),
     ("calloc", Routine::Allocating(Allocating::Calloc)),
     ("realloc", Routine::Allocating(Allocating::Realloc)),
@@ -218,6 +238,10 @@ pub enum Given {
     Birth,
     /// Where the objects of a block begin and end, their key and their lock word.
     Block,
+    /// Contents in the area of the first operand, as many bytes as this register holds.
+    Contents(u32),
+    /// A part of contents.
+    Part,
 }
 
 impl RoutineCall {
@@ -231,6 +255,7 @@ impl RoutineCall {
             Routine::Testing(_) => Given::Nothing,
             Routine::Pointing(Pointing::Narrow) => Given::Pointer,
             Routine::Pointing(_) => Given::Word,
+            Routine::Contents(contents) => self.given_by_contents(contents),
             Routine::Allocating(allocating) => given_by_allocating(allocating),
         }
     }
@@ -239,6 +264,7 @@ impl RoutineCall {
     pub fn is_of_program(&self) -> bool {
         match self.routine {
             Routine::Accessing(_) | Routine::Testing(_) | Routine::Pointing(_) => true,
+            Routine::Contents(Contents::ReadPart) | Routine::Contents(Contents::NarrowPart) => true,
             _ => false,
         }
     }
@@ -250,6 +276,8 @@ impl RoutineCall {
             Routine::Accessing(_)
             | Routine::Testing(_)
             | Routine::Pointing(_)
+            | Routine::Contents(Contents::ReadPart)
+            | Routine::Contents(Contents::NarrowPart)
             | Routine::Putting(Putting::Printf)
             | Routine::Allocating(Allocating::Leave) => false,
             _ => true,
@@ -258,21 +286,34 @@ impl RoutineCall {
 
     fn given_by_accessing(&self, accessing: Accessing) -> Given {
         match accessing {
-            Accessing::CheckedLoad | Accessing::Load => {
-                if self.of.is_some() {
-                    Given::Word
-                } else {
-                    Given::Pointer
-                }
-            }
+            Accessing::CheckedLoad | Accessing::Load => self.scalar(),
             _ => Given::Nothing,
+        }
+    }
+
+    fn given_by_contents(&self, contents: Contents) -> Given {
+        match contents {
+            Contents::MakeZero => Given::Contents(5),
+            Contents::TakeStructure | Contents::TakePart => Given::Contents(10),
+            Contents::PutStructure => Given::Nothing,
+            Contents::ReadPart => self.scalar(),
+            Contents::NarrowPart => Given::Part,
+        }
+    }
+
+    // An integer, or a pointer where no type is told.
+    fn scalar(&self) -> Given {
+        if self.of.is_some() {
+            Given::Word
+        } else {
+            Given::Pointer
         }
     }
 }
 
 fn given_by_moving(moving: Moving) -> Given {
     match moving {
-        Moving::Memmove | Moving::Memset => Given::Pointer,
+        Moving::Memmove | Moving::Memcpy | Moving::Memset => Given::Pointer,
         _ => Given::Nothing,
     }
 }

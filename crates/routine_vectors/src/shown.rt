@@ -2,7 +2,8 @@
 
 use crate::code::{RESULT, SCRATCH};
 use crate::machine::{Left, Machine, REGISTERS};
-use crate::objects::{Metadata, Objects};
+use crate::memory::Memory;
+use crate::objects::{Metadata, Objects, whole_words};
 use crate::routine::Given;
 use std::alloc::AllocError;
 
@@ -31,12 +32,14 @@ pub fn metadata_given(values: &[u64; REGISTERS]) -> Metadata {
     }
 }
 
-/// Writes what was given: a word, a pointer, or the addresses and the key of a block.
+/// Writes what was given: a word, a pointer, the addresses and the key of a block, contents in an area, or a part of
+/// some by its offset, its area and how far behind that the entries are. Areas are by where they are behind `areas`.
 pub fn write_given(
     text: &mut String,
     objects: &Objects,
     given: Given,
     machine: &Machine,
+    areas: u64,
 ) -> Result<(), AllocError> {
     let word = machine.value(RESULT.value);
     match given {
@@ -62,14 +65,59 @@ pub fn write_given(
             };
             objects.write(text, &machine.memory, &metadata)
         }
+        Given::Contents(bytes) => {
+            let (at, size) = (machine.value(0), machine.value(bytes));
+            write_contents(text, objects, &machine.memory, at, size)
+        }
+        Given::Part => {
+            let Metadata {
+                base,
+                bound,
+                lock,
+                ..
+            } = metadata_given(&machine.values);
+            let (offset, area) = (word.wrapping_sub(base), base.wrapping_sub(areas));
+            let entries = bound.wrapping_sub(base);
+            write!(text, " part{offset:x}/{area:x}/{entries:x}/{lock:x}")
+        }
     }
+}
+
+// Writes contents: their bytes, and the entry of each whole word.
+fn write_contents(
+    text: &mut String,
+    objects: &Objects,
+    memory: &Memory,
+    at: u64,
+    size: u64,
+) -> Result<(), AllocError> {
+    text.push_str(" ")?;
+    for offset in 0..size {
+        let byte = memory.load(at.wrapping_add(offset), 1).unwrap_or(0);
+        write!(text, "{byte:02x}")?;
+    }
+    let entries = at.wrapping_add(whole_words(size));
+    for word in 0..size / 8 {
+        let place = entries.wrapping_add(word.wrapping_mul(32));
+        let metadata = Metadata {
+            base: memory.word(place),
+            bound: memory.word(place.wrapping_add(8)),
+            key: memory.word(place.wrapping_add(16)),
+            lock: memory.word(place.wrapping_add(24)),
+        };
+        text.push_str(" ")?;
+        objects.write(text, memory, &metadata)?;
+    }
+    Ok(())
 }
 
 fn is_given(given: Given, register: u32) -> bool {
     match given {
-        Given::Nothing => false,
+        Given::Nothing | Given::Contents(_) => false,
         Given::Word => register == RESULT.value,
-        Given::Pointer | Given::Birth => { RESULT.value <= register && register <= RESULT.tag.lock }
+        Given::Pointer | Given::Birth | Given::Part => {
+            RESULT.value <= register && register <= RESULT.tag.lock
+        }
         Given::Block => {
             RESULT.value <= register && register <= RESULT.tag.lock && register != RESULT.tag.bound
         }

@@ -4,10 +4,12 @@ ghost use Rattle.addr_map.specs.Places.{AreMapped};
 
 use crate::changes::{write_born, write_bytes, write_lives, write_spaces, write_tags};
 use crate::code::{RESULT, SCRATCH, code_of, line_of};
-use crate::function::{CLEARED, STATUS, call_function, clear, function_of};
+use crate::function::{
+    CLEARED, STATUS, call_function, call_listed, clear, function_in_list, function_of,
+};
 use crate::machine::{Left, Machine, REGISTERS};
 use crate::memory::Memory;
-use crate::objects::{Metadata, Object, Objects, hexadecimal};
+use crate::objects::{Metadata, Object, Objects, hexadecimal, whole_words};
 use crate::routine::{Given, Piece, RoutineCall, directive_named, routine_named, type_named};
 use crate::shown::{write_given, write_left, write_registers, write_shown, write_steps};
 use addr_map::{AddrMap, Region};
@@ -24,6 +26,8 @@ pub struct Side {
     pub objects: Objects,
     pub key: u64,
     pub lock: u64,
+    /// Where the space of structure values begins.
+    pub areas: u64,
 }
 
 // The entries of static objects with which every scene begins.
@@ -64,6 +68,7 @@ pub fn side_of<S: ShadowForm>(alloc: Global, map: &AddrMap) -> Result<Side>
         *place = *byte;
     }
     let (lock, _) = map.region(Region::Locks);
+    let (areas, _) = map.region(Region::StructureValues);
     if !memory.store(lock, 8, 1) {
         bail!("no global lock word");
     }
@@ -75,6 +80,7 @@ pub fn side_of<S: ShadowForm>(alloc: Global, map: &AddrMap) -> Result<Side>
         },
         key: 1,
         lock,
+        areas,
     })
 }
 
@@ -117,6 +123,15 @@ impl Side {
         place: u32,
         word: &str,
     ) -> Result<u32> {
+        if let Some(part) = word.strip_prefix("part") {
+            self.put_part_of_contents(machine, place, part)?;
+            return Ok(5);
+        }
+        if let Some(offset) = word.strip_prefix("area") {
+            let offset = hexadecimal(offset).context("an area")?;
+            machine.set(place, self.areas.wrapping_add(offset));
+            return Ok(5);
+        }
         if let Some((address, tag)) = word.split_once('/') {
             machine.set(place, hexadecimal(address).context("an address")?);
             let metadata = self.objects.read(tag).context("a tag")?;
@@ -134,6 +149,24 @@ impl Side {
         call.number = number;
         machine.set(place, number);
         Ok(5)
+    }
+
+    // Puts the registers of a part of contents: its address, where its area begins and where the entries there do, and 0
+    // in the place of a lock word.
+    fn put_part_of_contents(&self, machine: &mut Machine, place: u32, part: &str) -> Result<()> {
+        let mut numbers = part.split('/').map(hexadecimal);
+        let offset = numbers.next().flatten().context("an offset")?;
+        let area = numbers.next().flatten().context("an area")?;
+        let size = numbers.next().flatten().context("a size")?;
+        let begin = self.areas.wrapping_add(area);
+        machine.set(place, begin.wrapping_add(offset));
+        machine.set(place.saturating_add(1), begin);
+        machine.set(
+            place.saturating_add(2),
+            begin.wrapping_add(whole_words(size)),
+        );
+        machine.set(place.saturating_add(4), 0);
+        Ok(())
     }
 
     // The lock word of an object.
@@ -201,7 +234,8 @@ impl Side {
         Ok(text)
     }
 
-    // The same by the call of a function of the runtime, made for the first line.
+    // The same by the call of a function of the runtime: that of the fixed list, or one made of the routine for the
+    // first line.
     fn perform_called<S: ShadowForm>(
         &mut self,
         alloc: Global,
@@ -218,11 +252,19 @@ impl Side {
         call.line = 1;
         // the registers that are made 0, a return, and the number of an ending
         call.limit = call.limit.saturating_add(CLEARED.into()).saturating_add(2);
-        let code = code_of::<S>(alloc, map, &call)?;
-        let function = function_of(alloc, &code)?;
-        clear(&mut after);
+        let listed = function_in_list(&call);
+        if listed.is_none() {
+            clear(&mut after);
+        }
         let operands = after.values;
-        let left = call_function(&mut after, &function, at)?;
+        let left = match listed {
+            Some(function) => call_listed::<S>(alloc, map, &mut after, function, at)?,
+            None => {
+                let code = code_of::<S>(alloc, map, &call)?;
+                let function = function_of(alloc, &code)?;
+                call_function(&mut after, &function, at)?
+            }
+        };
         let text = self.told::<S>(alloc, map, &call, &operands, left, &mut after)?;
         Ok(Some(text))
     }
@@ -244,13 +286,20 @@ impl Side {
         write_left(&mut text, left, &after.report)?;
         if left == Left::Past {
             let given = call.given();
-            write_given(&mut text, &self.objects, given, after)?;
+            write_given(&mut text, &self.objects, given, after, self.areas)?;
             write_registers(&mut text, given, operands, &after.values)?;
         }
         write_shown(&mut text, call.is_of_program(), after)?;
         write_steps(&mut text, after.steps, call.limit)?;
         if left == Left::Past {
             self.write_changes(&mut text, map, call.given(), after, &read)?;
+        } else {
+            // a run that ends was judged before it wrote
+            write_bytes(
+                &mut text,
+                &self.machine.memory.objects,
+                &after.memory.objects,
+            )?;
         }
         Ok(text)
     }
@@ -265,9 +314,10 @@ impl Side {
         read: &[FlatInstruction],
     ) -> Result<(), AllocError> {
         let born = born_range(given, after);
+        let area = area_given(given, after);
         write_bytes(text, &self.machine.memory.objects, &after.memory.objects)?;
         write_tags(text, &self.objects, &mut self.machine, after, read)?;
-        write_spaces(text, map, &self.machine.memory, &after.memory)?;
+        write_spaces(text, map, &self.machine.memory, &after.memory, area)?;
         write_lives(text, &self.objects, &self.machine.memory, &after.memory)?;
         write_born(text, &self.objects, after, read, born)
     }
@@ -280,6 +330,20 @@ fn born_range(given: Given, after: &Machine) -> (u64, u64) {
         Given::Birth => (base, bound),
         Given::Block => (after.value(RESULT.value), base),
         _ => (0, 0),
+    }
+}
+
+// The bytes of the area where contents are given: those in whole words, and an entry of 32 bytes for each word.
+fn area_given(given: Given, after: &Machine) -> Option<(u64, u64)> {
+    match given {
+        Given::Contents(bytes) => {
+            let first = after.value(0);
+            let size = after.value(bytes);
+            let entries = (size / 8).wrapping_mul(32);
+            let end = first.wrapping_add(whole_words(size)).wrapping_add(entries);
+            Some((first, end))
+        }
+        _ => None,
     }
 }
 

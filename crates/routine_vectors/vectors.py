@@ -18,7 +18,7 @@ PROMISES = {
     "memcmp": (26, 4), "malloc": (60, 20), "calloc": (70, 20), "free": (20, 26), "realloc": (100, 30),
     "enter": (100, 40), "leave": (11, 0), "scan": (16, 8), "scan_at_most": (16, 8), "spatial_check": (5, 0),
     "spatial_check_of_number": (5, 0), "temporal_check": (3, 0), "make_zero": (16, 5), "take_structure": (48, 16),
-    "put_structure": (40, 16), "take_part": (48, 16), "move_bytes": (16, 7), "move_tagged": (40, 16), "fill": (8, 5),
+    "put_structure": (40, 16), "take_part": (40, 13), "move_bytes": (16, 7), "move_tagged": (40, 16), "fill": (8, 5),
     "zero": (16, 4), "put_bytes": (2, 5), "number": (12, 15), "digits": (4, 15), "forward": (7, 0), "back": (7, 0),
     "difference": (7, 0), "narrow": (8, 0)}
 # of an integer, and of a pointer

@@ -272,9 +272,12 @@ rows =
     ∷ instructions (Turn (Some 1) 1) (Turn (Some 0) 1) []
     ∷ instructions (Turn (Some 2) 1) (Turn (Some 0) 1) []
     ∷ instructions (Turn (Some 3) 1) (Turn None 1) []
-    -- an argument of another kind, a structure that has too few bytes, and an argument too few
+    -- an argument of another kind; a structure that has too few bytes, too many, or begins behind its first; and an
+    -- argument too few
     ∷ values (Call 1 1 0 2 1) (to 0 4 ∷ structure ∷ []) (seven ∷ structure ∷ [])
-    ∷ values (Call 1 1 0 2 1) (seven ∷ zero_of (Structure 3) ∷ []) (seven ∷ zero_of (Structure 5) ∷ [])
+    ∷ values (Call 1 1 0 2 1) (seven ∷ zero_of (Structure 3) ∷ []) (seven ∷ structure ∷ [])
+    ∷ values (Call 1 1 0 2 1) (seven ∷ zero_of (Structure 5) ∷ []) (seven ∷ structure ∷ [])
+    ∷ values (Call 1 1 0 2 1) (seven ∷ record structure { value = integer 1 } ∷ []) (seven ∷ structure ∷ [])
     ∷ instructions (Call 1 1 0 1 1) (Call 1 1 0 2 1) (seven ∷ structure ∷ [])
     -- the same through a pointer
     ∷ values (CallThrough 1 1 0 2 1) (to_second ∷ seven ∷ seven ∷ []) (to_second ∷ seven ∷ structure ∷ [])

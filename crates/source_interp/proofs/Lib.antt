@@ -13,3 +13,6 @@ mod Stacked
 mod Burying
 mod Entering
 mod Zeroing
+mod Calling
+mod Bytes
+mod Scanning

@@ -11,7 +11,8 @@ use Rattle.obj_memory.specs.declared.value.Place.{Place}
 use Rattle.obj_memory.specs.Access.{move_range, read_value, scalar_size}
 use Rattle.obj_memory.specs.Objects.{Objects, ObjectState, object_at}
 use Rattle.obj_memory.proofs.Keeping.{keeps_moved}
-use Rattle.source_meaning.specs.State.{Rvalue, Run, ◌>>=◌, ◌>>◌, Setting, read_state, change, done, tally}
+use Rattle.source_meaning.specs.State.{Run, Rvalue, Setting, change, done, read_state, tally, ◌>>=◌, ◌>>◌}
+use Rattle.source_meaning.specs.State.{Outcome, Gives, Ended, Paused, on, skip}
 use Rattle.source_meaning.specs.Actions.{copy_structure, integer, load, load_structure, located, move_bytes}
 use Rattle.source_meaning.specs.Actions.{read_lvalue, store, write_lvalue}
 use Rattle.source_meaning.specs.Structures.{as_rvalue, contents_of, copy_value, give, part_of, put_contents, put_range}
@@ -25,9 +26,10 @@ use Rattle.interpreter_objects.proofs.Ranges.{some_is, some_means}
 use Rattle.source_interp.specs.declared.machine.Machine.{Machine}
 use Rattle.source_interp.specs.declared.stop.Stop.{Stop}
 use Rattle.source_interp.specs.Answers.{is_there}
+use Rattle.source_interp.specs.Copying.{stored_rvalue}
 use Rattle.source_interp.specs.Outside.{Outside}
 use Rattle.source_interp.specs.Standing.{Acts}
-use Rattle.source_interp.proofs.Acting.{done_acts, gives_acts, same_acts, stop_acts, then_acts}
+use Rattle.source_interp.proofs.Acting.{alike_acts, done_acts, gives_acts, same_acts, stop_acts, then_acts}
 use Rattle.source_interp.proofs.Least.{reads}
 use Rattle.source_interp.proofs.Accesses.{changes}
 
@@ -289,3 +291,40 @@ module _ (g : Setting) (old new : Machine) (before now : Outside) where
       (r' : Result Rvalue Stop) → r ≡ Err e → r' ≡ Err e → Acts g old new before now r run
       → Acts g old new before now r' (run >> give p)
   gives_no_place run p e r r' is is' a = stop_acts g old new before now r r' e run (λ x. give p) is is' a
+
+-- a value that is stored, where what is given is let go
+
+only_stored : (x : Outcome (Unit {0})) (v : Value) → on (on (on x (λ _. done v)) give) (λ _. skip) ≡ x
+only_stored (Gives u s) v = refl
+only_stored (Ended e s) v = refl
+only_stored (Paused s) v = refl
+
+only_copied : (x : Outcome (Unit {0})) (v : Value) → on (on x (λ _. give v)) (λ _. skip) ≡ x
+only_copied (Gives u s) v = refl
+only_copied (Ended e s) v = refl
+only_copied (Paused s) v = refl
+
+module _ (g : Setting) (old new : Machine) (before now : Outside) (kind : Kind) (is_judged : Bool) (p : Value)
+    (line : ℕ) (v : Rvalue) (r : Result (Unit {0}) Stop) where
+  pub stores_scalar : (k : Scalar) → kind ≡ OfScalar k
+      → Acts g old new before now r (store k is_judged p line v.value)
+      → Acts g old new before now r (stored_rvalue kind is_judged p line v)
+  stores_scalar k e a = alike_acts g old new before now r (store k is_judged p line v.value) _
+      (λ s. ap (λ x. stored_rvalue x is_judged p line v s) e ∙ only_stored (store k is_judged p line v.value s) v.value) a
+
+  pub stores_structure : (n : ℕ) → kind ≡ Structure n
+      → Acts g old new before now r (copy_value v.contents n is_judged p line v.value)
+      → Acts g old new before now r (stored_rvalue kind is_judged p line v)
+  stores_structure n e a = alike_acts g old new before now r (copy_value v.contents n is_judged p line v.value) _
+      (λ s. ap (λ x. stored_rvalue x is_judged p line v s) e
+      ∙ only_copied (copy_value v.contents n is_judged p line v.value s) p) a
+
+module _ (g : Setting) (m : Machine) (o : Outside) (kind : Kind) (is_judged : Bool) (p : Value) (line : ℕ)
+    (v : Rvalue) where
+  pub stores_void : kind ≡ Void → Acts g m m o o (Ok tt) (stored_rvalue kind is_judged p line v)
+  stores_void e = same_acts g m m o o (Ok tt) (done tt) _ (ap (λ x. stored_rvalue x is_judged p line v) e)
+      (done_acts g m o tt)
+
+  pub stores_array : (n : ℕ) → kind ≡ Array n → Acts g m m o o (Ok tt) (stored_rvalue kind is_judged p line v)
+  stores_array n e = same_acts g m m o o (Ok tt) (done tt) _ (ap (λ x. stored_rvalue x is_judged p line v) e)
+      (done_acts g m o tt)

@@ -9,3 +9,4 @@ pub mod Limits
 pub mod Variables
 pub mod Placing
 pub mod Storing
+pub mod Routines

@@ -39,7 +39,8 @@ impl Machine {
         }
     }
 
-    fn scalar_at(&self, scalar: Scalar, place: Place) -> Result<Value, Stop>
+    /// The scalar at a place, which is no access.
+    pub fn scalar_at(&self, scalar: Scalar, place: Place) -> Result<Value, Stop>
         ensures { ActsAlone self.now self.now result (read_state (λ s. read_value scalar place s.objects)) }
     {
         match self.store.read(scalar, place) {

@@ -9,7 +9,7 @@ ghost use Rattle.source_meaning.specs.Actions.{copy_structure, load_structure, m
 ghost use Rattle.source_meaning.specs.Structures.{as_rvalue, copy_value, part_of, put_range, read_rvalue};
 ghost use Rattle.source_meaning.specs.Structures.{write_rvalue};
 ghost use Rattle.source_interp.specs.declared.machine.Machine.{Machine as OfMachine};
-ghost use Rattle.source_interp.specs.Copying.{copied};
+ghost use Rattle.source_interp.specs.Copying.{copied, stored_rvalue};
 ghost use Rattle.source_interp.specs.Standing.{ActsAlone, ActsTraced};
 
 use crate::found::Found;
@@ -243,6 +243,30 @@ impl Machine {
                 self.write_scalar_value(trace, scalar, is_judged, pointer, line, stored)
             }
             Kind::Structure(size) => self.write_structure(size, is_judged, pointer, line, &value),
+        }
+    }
+
+    /// The same of a value that stays, where what is given is let go.
+    pub fn store_rvalue<T: Trace>(
+        &mut self,
+        trace: &mut T,
+        kind: Kind,
+        is_judged: bool,
+        pointer: Value,
+        line: u32,
+        value: &Found,
+    ) -> Result<(), Stop>
+        ensures { ActsTraced self.old self.new (T.noted trace.old) (T.noted trace.new) result
+            (stored_rvalue kind is_judged pointer line value.now) }
+    {
+        match kind {
+            Kind::Void => Ok(()),
+            Kind::Array(_) => Ok(()),
+            Kind::Scalar(scalar) => {
+                let stored = value.value();
+                self.store(trace, scalar, is_judged, pointer, line, stored)
+            }
+            Kind::Structure(size) => self.copy_value(size, is_judged, pointer, line, value),
         }
     }
 }

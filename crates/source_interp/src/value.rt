@@ -21,6 +21,13 @@ pub fn integer(word: u64) -> Value
     }
 }
 
+/// Whether a value is zero.
+pub fn is_zero(value: Value) -> bool
+    ensures { result ≡ is_zero value }
+{
+    value.word == 0
+}
+
 /// Whether a value is not zero, as an int (C99 6.5.3.3, 6.5.13, 6.5.14).
 pub fn truth(value: Value) -> Value
     ensures { result ≡ integer (one_if (not (is_zero value))) }

@@ -1,0 +1,129 @@
+//! Routines on strings (C99 7.21). The bytes of a string are judged one by one.
+
+ghost use Rattle.std.specs.Prelude.{◌≡◌, ◌==◌};
+ghost use Rattle.source_meaning.specs.Strings.{reach, scan, scan_within, strcat, strcpy, strlen, write_string};
+ghost use Rattle.source_interp.specs.declared.machine.Machine.{Machine as OfMachine};
+ghost use Rattle.source_interp.specs.Routines.{behind_scan, scanned};
+ghost use Rattle.source_interp.specs.Standing.{ActsAlone};
+
+use crate::items::append;
+use crate::machine::Machine;
+use crate::stop::{Cause, Stop};
+use crate::value::integer;
+use obj_memory::{Tag, Value};
+use std::alloc::Global;
+use tree_containers::Items;
+
+// How many bytes lie between a pointer and its bound.
+fn reach(pointer: Value) -> u64
+    ensures { result ≡ reach pointer }
+{
+    match pointer.tag {
+        Tag::OfObject(_, bounds) => bounds.bound.saturating_sub(pointer.word),
+        Tag::Untagged => 0,
+        Tag::OfFunction(_) => 0,
+    }
+}
+
+// Whether a byte ends a string (7.1.1 paragraph 1).
+fn is_end(byte: u8) -> bool
+    ensures { result ≡ (byte == 0) }
+{
+    byte == 0
+}
+
+// What a scan comes to that found these bytes and no 0 byte.
+fn without_end(bytes: Items<u8>, must_end: bool, line: u32) -> Result<Items<u8>, Stop>
+    ensures { (m : OfMachine) → ActsAlone m m result (scanned bytes must_end line) }
+{
+    if must_end {
+        Err(Stop::Ended(Cause::Spatial, line))
+    } else {
+        Ok(bytes)
+    }
+}
+
+impl Machine {
+    // The bytes of a string before its 0 byte, at most so many; that there are more may be a violation.
+    #[tactic(auto, using(crate::proofs::Acting::failing))]
+    fn scan_within(
+        &mut self,
+        alloc: Global,
+        count: u64,
+        must_end: bool,
+        string: Value,
+        line: u32,
+    ) -> Result<Items<u8>, Stop>
+        ensures { ActsAlone self.old self.new result (scan_within count (behind_scan must_end line) string line) }
+    {
+        let mut bytes = Vec::new(alloc);
+        let mut pointer = string;
+        for _ in 0..count {
+            let byte = self.look(pointer, line)?;
+            if is_end(byte) {
+                return Ok(Items::from_vec(bytes));
+            }
+            append(&mut bytes, byte)?;
+            pointer = pointer.moved(1);
+        }
+        without_end(Items::from_vec(bytes), must_end, line)
+    }
+
+    /// The bytes of a string before its 0 byte (7.1.1 paragraph 1).
+    pub fn scan(&mut self, alloc: Global, string: Value, line: u32) -> Result<Items<u8>, Stop>
+        ensures { ActsAlone self.old self.new result (scan string line) }
+    {
+        self.scan_within(alloc, reach(string), true, string, line)
+    }
+
+    /// The number of bytes before the 0 byte (7.21.6.3).
+    pub fn strlen(&mut self, alloc: Global, string: Value, line: u32) -> Result<Value, Stop>
+        ensures { ActsAlone self.old self.new result (strlen string line) }
+    {
+        let bytes = self.scan(alloc, string, line)?;
+        Ok(integer(bytes.as_slice().len() as u64))
+    }
+
+    // A string is written at a pointer, with its 0 byte.
+    #[tactic(auto, using(crate::proofs::Acting::failing))]
+    fn write_string(&mut self, to: Value, bytes: Items<u8>, line: u32) -> Result<(), Stop>
+        ensures { ActsAlone self.old self.new result (write_string to bytes line) }
+    {
+        let mut all = bytes.into_vec();
+        append(&mut all, 0)?;
+        let whole = all.as_slice();
+        let place = self.located(true, whole.len() as u64, to, line)?;
+        self.set_bytes(place, whole)
+    }
+
+    /// A string is copied (7.21.2.3).
+    pub fn strcpy(
+        &mut self,
+        alloc: Global,
+        to: Value,
+        from: Value,
+        line: u32,
+    ) -> Result<Value, Stop>
+        ensures { ActsAlone self.old self.new result (strcpy to from line) }
+    {
+        let bytes = self.scan(alloc, from, line)?;
+        self.write_string(to, bytes, line)?;
+        Ok(to)
+    }
+
+    /// A string is written over the 0 byte of another (7.21.3.1).
+    pub fn strcat(
+        &mut self,
+        alloc: Global,
+        to: Value,
+        from: Value,
+        line: u32,
+    ) -> Result<Value, Stop>
+        ensures { ActsAlone self.old self.new result (strcat to from line) }
+    {
+        let before = self.scan(alloc, to, line)?;
+        let bytes = self.scan(alloc, from, line)?;
+        self.write_string(to.moved(before.as_slice().len() as u64), bytes, line)?;
+        Ok(to)
+    }
+}

@@ -16,3 +16,5 @@ mod Zeroing
 mod Calling
 mod Bytes
 mod Scanning
+mod Heaping
+mod Seeking

@@ -1,7 +1,7 @@
 -- Strings that are scanned.
 use Rattle.std.proofs.Common.{◌≡◌, ℕ, suc, ◌+◌, ◌-◌, ◌<◌, ◌≤◌, ◌==◌, sym, ap, subst, refl, ◌∙◌, Ok, Err, Bool, true}
-use Rattle.std.proofs.Common.{false, List, [], ◌∷◌, ◌++◌, arith}
-use Rattle.std.specs.Prelude.{Result}
+use Rattle.std.proofs.Common.{false, List, [], ◌∷◌, ◌++◌, arith, length}
+use Rattle.std.specs.Prelude.{Result, replicate}
 use Rattle.std.proofs.lemmas.List.{append-nil, append_assoc}
 use Rattle.obj_memory.specs.declared.value.Value.{Value}
 use Rattle.obj_memory.specs.Judgement.{moved}
@@ -45,13 +45,13 @@ from_none (Gives bs s) = refl
 from_none (Ended e s) = refl
 from_none (Paused s) = refl
 
-left_more : (i n : ℕ) → i < n → n - i ≡ suc (n - (i + 1))
+pub left_more : (i n : ℕ) → i < n → n - i ≡ suc (n - (i + 1))
 left_more i n h = omega (arith, h)
 
-none_left : (i n : ℕ) → n ≤ i → n - i ≡ 0
+pub none_left : (i n : ℕ) → n ≤ i → n - i ≡ 0
 none_left i n h = omega (arith, h)
 
-all_left : (n : ℕ) → n - 0 ≡ n
+pub all_left : (n : ℕ) → n - 0 ≡ n
 all_left n = omega arith
 
 -- a scan, of which so many bytes may be left
@@ -138,3 +138,11 @@ module _ (g : Setting) (m : Machine) (o : Outside) (bytes : List ℕ) (must_end 
   pub ends_well : must_end ≡ false → Acts g m m o o (Ok bytes) (scanned bytes must_end line)
   ends_well e = same_acts g m m o o (Ok bytes) (scanned bytes false line) _ (ap (λ b. scanned bytes b line) e)
       (gives_acts g m o bytes (bytes ++ []) (sym (append-nil bytes)))
+
+-- zeros that are put behind bytes
+pub pads : (bytes : List ℕ) (size count : ℕ) (whole zeros all : List ℕ) → whole ≡ bytes → count ≡ size - length whole
+    → zeros ≡ replicate count 0 → all ≡ whole ++ zeros → all ≡ bytes ++ replicate (size - length bytes) 0
+pads bytes size count whole zeros all e e' e'' more =
+    more ∙ ap (λ xs. xs ++ zeros) e ∙ ap (λ xs. bytes ++ xs) (e'' ∙ ap (λ n. replicate n 0) (e' ∙ ap (λ xs. size - length xs) e))
+
+pub ruleset padding = (pads)

@@ -80,7 +80,7 @@ module _ (g : Setting) (o : Outside) (old : Machine) where
 
 -- an object more
 
-length_kept : (objects : Objects) → length (kept objects) ≡ length objects
+pub length_kept : (objects : Objects) → length (kept objects) ≡ length objects
 unfolding kept
 length_kept [] = refl
 length_kept (x ∷ xs) = ap suc (length_kept xs)

@@ -10,3 +10,4 @@ pub mod Variables
 pub mod Placing
 pub mod Storing
 pub mod Routines
+pub mod Heaping

@@ -9,6 +9,7 @@ pub mod call;
 pub mod caller;
 pub mod evaluation;
 pub mod found;
+pub mod heap;
 pub mod homes;
 pub mod initializing;
 pub mod items;

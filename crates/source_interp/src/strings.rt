@@ -1,17 +1,18 @@
 //! Routines on strings (C99 7.21). The bytes of a string are judged one by one.
 
-ghost use Rattle.std.specs.Prelude.{◌≡◌, ◌==◌};
-ghost use Rattle.source_meaning.specs.Strings.{reach, scan, scan_within, strcat, strcpy, strlen, write_string};
+ghost use Rattle.std.specs.Prelude.{◌≡◌, ◌==◌, ◌-◌, ◌++◌, length, replicate, IfOk};
+ghost use Rattle.source_meaning.specs.Strings.{reach, scan, scan_within, seek_within, strcat, strchr, strcpy};
+ghost use Rattle.source_meaning.specs.Strings.{strlen, strncpy, write_string};
 ghost use Rattle.source_interp.specs.declared.machine.Machine.{Machine as OfMachine};
-ghost use Rattle.source_interp.specs.Routines.{behind_scan, scanned};
+ghost use Rattle.source_interp.specs.Routines.{behind_scan, copy_some, scanned};
 ghost use Rattle.source_interp.specs.Standing.{ActsAlone};
 
 use crate::items::append;
 use crate::machine::Machine;
 use crate::stop::{Cause, Stop};
-use crate::value::integer;
-use obj_memory::{Tag, Value};
-use std::alloc::Global;
+use crate::value::{integer, is_zero};
+use obj_memory::{IntType, Tag, Value};
+use std::alloc::{AllocError, Global};
 use tree_containers::Items;
 
 // How many bytes lie between a pointer and its bound.
@@ -30,6 +31,25 @@ fn is_end(byte: u8) -> bool
     ensures { result ≡ (byte == 0) }
 {
     byte == 0
+}
+
+// Whether a byte is one that is sought.
+fn is_same(byte: u8, sought: u64) -> bool
+    ensures { result ≡ (byte == sought) }
+{
+    u64::from(byte) == sought
+}
+
+// Bytes with zeros up to a number.
+#[tactic(auto, using(crate::proofs::Scanning::padding))]
+fn padded(alloc: Global, bytes: Items<u8>, size: u64) -> Result<Items<u8>, AllocError>
+    ensures { IfOk result (λ all. all ≡ bytes ++ replicate (size - length bytes) 0) }
+{
+    let mut all = bytes.into_vec();
+    let count = size.saturating_sub(all.as_slice().len() as u64);
+    let zeros = vec![in alloc; 0u8; count as usize]?;
+    all.extend_from_slice(&zeros)?;
+    Ok(Items::from_vec(all))
 }
 
 // What a scan comes to that found these bytes and no 0 byte.
@@ -125,5 +145,75 @@ impl Machine {
         let bytes = self.scan(alloc, from, line)?;
         self.write_string(to.moved(before.as_slice().len() as u64), bytes, line)?;
         Ok(to)
+    }
+
+    // So many bytes are copied, of which there are some.
+    #[tactic(auto, using(crate::proofs::Acting::failing))]
+    fn copy_some(
+        &mut self,
+        alloc: Global,
+        to: Value,
+        from: Value,
+        size: u64,
+        line: u32,
+    ) -> Result<Value, Stop>
+        ensures { ActsAlone self.old self.new result (copy_some to from size line) }
+    {
+        let bytes = self.scan_within(alloc, size, false, from, line)?;
+        let place = self.located(true, size, to, line)?;
+        let all = padded(alloc, bytes, size)?;
+        let whole = all.as_slice();
+        self.set_bytes(place, whole)?;
+        Ok(to)
+    }
+
+    /// At most so many bytes of a string are copied, with zeros up to that number (7.21.2.4).
+    pub fn strncpy(
+        &mut self,
+        alloc: Global,
+        to: Value,
+        from: Value,
+        size: Value,
+        line: u32,
+    ) -> Result<Value, Stop>
+        ensures { ActsAlone self.old self.new result (strncpy to from size line) }
+    {
+        if is_zero(size) {
+            Ok(to)
+        } else {
+            self.copy_some(alloc, to, from, size.word, line)
+        }
+    }
+
+    // The first of so many bytes that is one that is sought, or null at the end of the string.
+    fn seek_within(
+        &mut self,
+        count: u64,
+        sought: u64,
+        string: Value,
+        line: u32,
+    ) -> Result<Value, Stop>
+        ensures { ActsAlone self.old self.new result (seek_within count sought string line) }
+    {
+        let mut pointer = string;
+        for _ in 0..count {
+            let byte = self.look(pointer, line)?;
+            if is_same(byte, sought) {
+                return Ok(pointer);
+            }
+            if is_end(byte) {
+                return Ok(integer(0));
+            }
+            pointer = pointer.moved(1);
+        }
+        Err(Stop::Ended(Cause::Spatial, line))
+    }
+
+    /// The first byte of a string that is a value, converted to char, or null; the 0 byte is sought too (7.21.5.2).
+    pub fn strchr(&mut self, string: Value, byte: Value, line: u32) -> Result<Value, Stop>
+        ensures { ActsAlone self.old self.new result (strchr string byte line) }
+    {
+        let sought = IntType::Char.fit(byte.word);
+        self.seek_within(reach(string), sought, string, line)
     }
 }

@@ -18,3 +18,4 @@ mod Bytes
 mod Scanning
 mod Heaping
 mod Seeking
+mod Comparing

@@ -11,3 +11,4 @@ pub mod Placing
 pub mod Storing
 pub mod Routines
 pub mod Heaping
+pub mod Comparing

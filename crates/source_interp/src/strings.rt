@@ -1,14 +1,16 @@
 //! Routines on strings (C99 7.21). The bytes of a string are judged one by one.
 
 ghost use Rattle.std.specs.Prelude.{◌≡◌, ◌==◌, ◌-◌, ◌++◌, length, replicate, IfOk};
-ghost use Rattle.source_meaning.specs.Strings.{reach, scan, scan_within, seek_within, strcat, strchr, strcpy};
-ghost use Rattle.source_meaning.specs.Strings.{strlen, strncpy, write_string};
+ghost use Rattle.source_meaning.specs.Strings.{compare_within, go_on, reach, scan, scan_within, seek_within};
+ghost use Rattle.source_meaning.specs.Strings.{strcat, strchr, strcmp, strcpy, strlen, strncpy, write_string};
 ghost use Rattle.source_interp.specs.declared.machine.Machine.{Machine as OfMachine};
+ghost use Rattle.source_interp.specs.Comparing.{look_at_both};
 ghost use Rattle.source_interp.specs.Routines.{behind_scan, copy_some, scanned};
 ghost use Rattle.source_interp.specs.Standing.{ActsAlone};
 
 use crate::items::append;
 use crate::machine::Machine;
+use crate::memory::order;
 use crate::stop::{Cause, Stop};
 use crate::value::{integer, is_zero};
 use obj_memory::{IntType, Tag, Value};
@@ -38,6 +40,22 @@ fn is_same(byte: u8, sought: u64) -> bool
     ensures { result ≡ (byte == sought) }
 {
     u64::from(byte) == sought
+}
+
+/// A byte of each of two strings.
+#[derive(Clone, Copy)]
+pub struct Pair {
+    /// Of the first one.
+    pub first: u8,
+    /// Of the second one.
+    pub second: u8,
+}
+
+// Whether both are equal and neither string ends.
+fn goes_on(pair: Pair) -> bool
+    ensures { result ≡ go_on pair.first pair.second }
+{
+    pair.first == pair.second && pair.first != 0
 }
 
 // Bytes with zeros up to a number.
@@ -215,5 +233,44 @@ impl Machine {
     {
         let sought = IntType::Char.fit(byte.word);
         self.seek_within(reach(string), sought, string, line)
+    }
+
+    // A byte of the first string, and then one of the second.
+    fn look_at_both(&mut self, left: Value, right: Value, line: u32) -> Result<Pair, Stop>
+        ensures { ActsAlone self.old self.new result (look_at_both left right line) }
+    {
+        let first = self.look(left, line)?;
+        let second = self.look(right, line)?;
+        Ok(Pair { first, second })
+    }
+
+    fn compare_within(
+        &mut self,
+        count: u64,
+        left: Value,
+        right: Value,
+        line: u32,
+    ) -> Result<Value, Stop>
+        ensures { ActsAlone self.old self.new result (compare_within count left right line) }
+    {
+        let mut first = left;
+        let mut second = right;
+        for _ in 0..count {
+            let pair = self.look_at_both(first, second, line)?;
+            if goes_on(pair) {
+                first = first.moved(1);
+                second = second.moved(1);
+            } else {
+                return Ok(order(pair.first, pair.second));
+            }
+        }
+        Err(Stop::Ended(Cause::Spatial, line))
+    }
+
+    /// A byte of the first string and one of the second in turn, up to a difference or the end (7.21.4.2).
+    pub fn strcmp(&mut self, left: Value, right: Value, line: u32) -> Result<Value, Stop>
+        ensures { ActsAlone self.old self.new result (strcmp left right line) }
+    {
+        self.compare_within(reach(left), left, right, line)
     }
 }

@@ -74,6 +74,11 @@ LISTINGS = [
     ("asm a.lst a.elf", 'Assemble { listing: "a.lst", image: "a.elf" }'),
 ]
 
+# Each compiles and runs the source of this seed with so many functions.
+WORKS = [
+    ("work 0 1", 0, 1), ("work 7 64", 7, 64), ("work 18446744073709551615 2", 2 ** 64 - 1, 2), ("work -- 3 4", 3, 4),
+]
+
 # Each is refused.
 REFUSED = [
     "", "compile a.c", "--help", "-h", "help", "help go", "go --help", "go a.c --help", "--version", "--limit 5 run a.elf",
@@ -84,6 +89,8 @@ REFUSED = [
     "go a.c --keys 100000000000000000000", "go a.c --keys 018446744073709551615", "go a.c b.c", "go a.c --heap 4095",
     "go a.c --heap 4097", "go a.c --heap 16781312", "build a.c a.elf --stack 4198400", "build a.c a.elf --calls 16781312",
     "list", "list a.elf b.elf", "list a.elf --limit 5", "asm", "asm a.lst", "asm a.lst a.elf more", "asm a.lst a.elf --heap 4096",
+    "work", "work 0", "work 0 0", "work 0 65", "work 0 1 2", "work 18446744073709551616 1", "work 00 1", "work 0 01", "work -1 1",
+    "work 0 -1", "work +1 1", "work 0x1 1", "work 0 1 --limit 5", "work 0 1 --heap 4096", "work --help",
     "build a.c a.elf --blocks 0", "build a.c a.elf --blocks 65537", "go a.c --keys 4611686018427387905",
 ]
 
@@ -188,6 +195,8 @@ def command_rows():
         yield f"words {words}", ['Ok(Go { source: "a.c", budgets: %s, limit: %d })' % (budgets_shown(sizes), limit)]
     for words, shown in LISTINGS:
         yield f"words {words}", [f"Ok({shown})"]
+    for words, seed, count in WORKS:
+        yield f"words {words}", ["Ok(Work { seed: %d, count: %d })" % (seed, count)]
     for words in REFUSED:
         yield f"words {words}", ["Err(Usage)"]
     yield "nothing", ["Err(Usage)"]

@@ -43,6 +43,10 @@ list_words = with_operand (new_app (codes "list")) (codes "image")
 abbrev pub assemble_words : App
 assemble_words = with_operand (with_operand (new_app (codes "asm")) (codes "listing")) (codes "image")
 
+-- work SEED COUNT
+abbrev pub work_words : App
+work_words = with_operand (with_operand (new_app (codes "work")) (codes "seed")) (codes "count")
+
 -- the words are those after the program's name, and the first is a command
 abbrev pub tool_words : App
 tool_words = record (new_app (codes "sbcets")) {
@@ -51,5 +55,5 @@ tool_words = record (new_app (codes "sbcets")) {
 
 -- the tool with its commands
 unfoldable pub program : App
-program = with_subcommand (with_subcommand (with_subcommand (with_subcommand (with_subcommand tool_words
-    build_words.top) run_words.top) go_words.top) list_words.top) assemble_words.top
+program = with_subcommand (with_subcommand (with_subcommand (with_subcommand (with_subcommand (with_subcommand tool_words
+    build_words.top) run_words.top) go_words.top) list_words.top) assemble_words.top) work_words.top

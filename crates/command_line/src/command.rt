@@ -48,6 +48,13 @@ pub enum Command<'a> {
         /// The file to write.
         image: &'a str,
     },
+    /// Compile and run the source that a seed draws (`work_source`).
+    Work {
+        /// The seed.
+        seed: u64,
+        /// How many functions the source has, 1 to 64.
+        count: u64,
+    },
 }
 
 /// Why there is no command.

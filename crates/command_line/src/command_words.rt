@@ -2,7 +2,8 @@
 ghost use Rattle.std.specs.Prelude.{◌≡◌, ◌≤◌, ◌^◌, Err, IfOk, IfSome, None, Some, map, option_and_then, option_map};
 ghost use Rattle.clap.specs.Words.{subcommand_rows_of};
 ghost use Rattle.command_line.specs.Asked.{IsLimited, allowed, asked_of, budgets_at, build_at, command_at, command_in};
-ghost use Rattle.command_line.specs.Asked.{assemble_at, go_at, limit_at, list_at, number_at, rows_in, run_at, text_at};
+ghost use Rattle.command_line.specs.Asked.{assemble_at, count_at, go_at, limit_at, list_at, number_at, operand_at};
+ghost use Rattle.command_line.specs.Asked.{rows_in, run_at, text_at, work_at};
 
 use crate::command::{Command, WordsFault};
 use crate::number::number_of;
@@ -16,14 +17,17 @@ const DEFAULT_LIMIT: u64 = 1_000_000_000;
 
 const MAX_LIMIT: u64 = 1 << 62;
 
+const MAX_COUNT: u64 = 64;
+
 /// The command that the words ask for; they are those after the program's name. Each option may be
 /// left out, and has its default then: a heap of 4194304 bytes, a stack of 1048576, calls of 4194304,
 /// 16384 blocks, 2^62 keys, and a limit of 1000000000.
 ///
 /// `WordsFault::Usage` comes exactly where the words are no command, as long as there is memory: where `clap` refuses
 /// them or answers them with help, an option's value is no number, a budget is out of its range or no multiple of
-/// 4096 (`Budgets::new`), or the limit is above 2^62. A number is decimal digits with no sign and no leading zero,
-/// below 2^64. `WordsFault::Memory` comes where memory runs out, whatever the words are.
+/// 4096 (`Budgets::new`), the limit is above 2^62, or the functions of `work` are none or more than 64. A number is
+/// decimal digits with no sign and no leading zero, below 2^64. `WordsFault::Memory` comes where memory runs out,
+/// whatever the words are.
 #[tactic(auto, unfolding(crate::specs::Asked::command_in))]
 pub fn command_of<'a, S: AsStr>(alloc: Global, words: &'a [S]) -> Result<Command<'a>, WordsFault>
     ensures ok { IfOk result (λ command. command_in (map S.text words.entry.now) ≡ Some (asked_of command)) }
@@ -50,11 +54,12 @@ fn command_asked<'a>(matches: &ArgMatches<'a>) -> Option<Command<'a>>
         "go" => go_asked(matches),
         "list" => list_asked(matches),
         "asm" => assemble_asked(matches),
+        "work" => work_asked(matches),
         _ => None,
     }
 }
 
-// The command of the matches of `build`, and below of `run`, `go`, `list` and `asm`.
+// The command of the matches of `build`, and below of `run`, `go`, `list`, `asm` and `work`.
 #[tactic(auto, unfolding(crate::specs::Asked::build_at))]
 fn build_asked<'a>(matches: &ArgMatches<'a>) -> Option<Command<'a>>
     ensures asked { option_map asked_of result ≡ build_at (rows_in matches.now) }
@@ -109,6 +114,34 @@ fn assemble_asked<'a>(matches: &ArgMatches<'a>) -> Option<Command<'a>>
         listing: text_at(matches, "listing")?,
         image: text_at(matches, "image")?,
     })
+}
+
+#[tactic(auto, unfolding(crate::specs::Asked::work_at))]
+fn work_asked<'a>(matches: &ArgMatches<'a>) -> Option<Command<'a>>
+    ensures asked { option_map asked_of result ≡ work_at (rows_in matches.now) }
+    ensures limited { IfSome result IsLimited }
+{
+    Some(Command::Work {
+        seed: operand_at(matches, "seed")?,
+        count: count_at(matches)?,
+    })
+}
+
+// How many functions `work` asks for. `None` also where they are none or too many.
+#[tactic(auto, unfolding(crate::specs::Asked::count_at))]
+fn count_at(matches: &ArgMatches) -> Option<u64>
+    ensures asked { result ≡ count_at (rows_in matches.now) }
+    ensures limited { IfSome result (λ count. (1 ≤ count) × (count ≤ 64)) }
+{
+    operand_at(matches, "count").filter(|count| *count >= 1 && *count <= MAX_COUNT)
+}
+
+// The number of the operand of this name. `None`: it is no number.
+#[tactic(auto, unfolding(crate::specs::Asked::operand_at))]
+fn operand_at(matches: &ArgMatches, name: &str) -> Option<u64>
+    ensures { result ≡ operand_at name.now (rows_in matches.now) }
+{
+    number_of(text_at(matches, name)?)
 }
 
 // The budgets of the five options, or their defaults. `None` also where one is out of its range.

@@ -5,6 +5,7 @@
 //!     go SOURCE [--heap N] [--stack N] [--calls N] [--blocks N] [--keys N] [--limit N]
 //!     list IMAGE
 //!     asm LISTING IMAGE
+//!     work SEED COUNT
 //!
 //! The words are read as `clap` reads them: an option stands before or after the operands, as
 //! `--heap N` or `--heap=N`, at most once, and after `--` each word is an operand. A request for

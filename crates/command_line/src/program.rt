@@ -3,12 +3,12 @@ ghost use Rattle.std.specs.Prelude.{◌≡◌, IfOk, false};
 ghost use Rattle.clap.specs.Words.{app_of, rule_of};
 ghost use Rattle.command_line.specs.Program.{assemble_words, build_words, go_words, list_words, operand, option};
 ghost use Rattle.command_line.specs.Program.{program, run_words};
-ghost use Rattle.command_line.specs.Program.{with_budget_options};
+ghost use Rattle.command_line.specs.Program.{with_budget_options, work_words};
 
 use clap::{Arg, Command};
 use std::alloc::{AllocError, Global};
 
-/// The tool with its five commands.
+/// The tool with its six commands.
 #[tactic(auto, unfolding(crate::specs::Program::program))]
 pub fn program<'a>(alloc: Global) -> Result<Command<'a>, AllocError>
     ensures { IfOk result (λ command. app_of command ≡ program) }
@@ -20,7 +20,8 @@ pub fn program<'a>(alloc: Global) -> Result<Command<'a>, AllocError>
         .subcommand(run_words(alloc)?)?
         .subcommand(go_words(alloc)?)?
         .subcommand(list_words(alloc)?)?
-        .subcommand(assemble_words(alloc)?)
+        .subcommand(assemble_words(alloc)?)?
+        .subcommand(work_words(alloc)?)
 }
 
 // `build SOURCE IMAGE`, with the budgets.
@@ -64,6 +65,15 @@ fn assemble_words<'a>(alloc: Global) -> Result<Command<'a>, AllocError>
     Command::new(alloc, "asm")
         .arg(operand(alloc, "listing"))?
         .arg(operand(alloc, "image"))
+}
+
+// `work SEED COUNT`.
+fn work_words<'a>(alloc: Global) -> Result<Command<'a>, AllocError>
+    ensures { IfOk result (λ command. app_of command ≡ work_words) }
+{
+    Command::new(alloc, "work")
+        .arg(operand(alloc, "seed"))?
+        .arg(operand(alloc, "count"))
 }
 
 // The command with the five options of the budgets.

@@ -9,20 +9,22 @@ use Rattle.sbcets_core.specs.declared.outcome.Outcome.TheVariants.{Exited, Built
 use Rattle.sbcets_core.specs.declared.outcome.Outcome.TheVariants.{Limit, Refused, ImageRefused, Trap}
 use Rattle.sbcets_core.specs.declared.outcome.Outcome.TheVariants.{Done, Running, ListRefused}
 use Rattle.sbcets_core.specs.declared.outcome.Outcome.TheVariants as outcomes
-use Rattle.command_line.specs.Asked.{Asked, build, run, go, list, assemble}
+use Rattle.command_line.specs.Asked.{Asked, build, run, go, list, assemble, work}
+use Rattle.command_line.specs.Generator.{work_source}
 use Rattle.sbcets_core.specs.Outcomes.{max_source, max_image_file, max_listing}
 use Rattle.sbcets_core.specs.declared.refusal.SourceRefusal.{SourceRefusal}
 use Rattle.elf_image.specs.declared.fault.ImageFault.{ImageFault}
 use Rattle.sbcets_core.specs.Commands.{Outside, IsRead, IsTooLong, RefusesSource, RefusesImage, Goes, Runs, Builds}
 use Rattle.sbcets_core.specs.Listings.{Lists, Assembles, Spells, RefusesListing, SpellsNone}
-use Rattle.sb_base.specs.Budgets.{BudgetSizes}
+use Rattle.sbcets_core.specs.Works.{Works}
+use Rattle.sb_base.specs.Budgets.{BudgetSizes, default_sizes}
 use Rattle.c_tree.specs.Programs.{Program}
 use Rattle.compiled_programs.specs.Programs.{is_integer_program}
 use Rattle.image_compiler.specs.declared.error.CompileError.{CompileError}
 use Rattle.image_compiler.specs.declared.error.CompileError.TheVariants as compile
 use Rattle.sbcets_core.specs.Accepted.{Judges, IsOfSize, IsTooLarge, IsUncompiled, Refuses}
 use Rattle.sbcets_core.specs.Top.{Does, IsAcceptedFile, IsReadableFile, IsOfRun, IsOfGo, IsOfBuild, IsComplete}
-use Rattle.sbcets_core.specs.Top.{IsRefusalOf, IsListingFile, IsOfListing}
+use Rattle.sbcets_core.specs.Top.{IsRefusalOf, IsListingFile, IsOfListing, IsOfWork}
 use Rattle.sbcets_core.proofs.Judging.{not_both, one_program}
 
 -- what is read is what the file of the name holds
@@ -218,6 +220,25 @@ assemble_ends name target (Running n) image before after f d = absurd d
 assemble_ends name target (Refused refusal) image before after f d = absurd d
 assemble_ends name target (Trap kind pc) image before after f d = absurd d
 
+work_ends : (seed count : ℕ) (outcome : Outcome) (image : List ℕ) (before after : Outside) (program : Program)
+    → Judges (work_source seed count) (Ok program) → Works seed count outcome image before after
+    → IsOfWork program outcome
+work_ends seed count (Exited code) image before after program j d = tt
+work_ends seed count (Limit n) image before after program j d = tt
+work_ends seed count Memory image before after program j d = tt
+work_ends seed count WriteFault image before after program j d = tt
+work_ends seed count (Refused refusal) image before after program j d =
+    refused_of (work_source seed count) program default_sizes refusal j d.0
+work_ends seed count InputFault image before after program j d = absurd d
+work_ends seed count (Trap kind pc) image before after program j d = absurd d
+work_ends seed count (outcomes.ReadFault fault) image before after program j d = absurd d
+work_ends seed count (ImageRefused fault) image before after program j d = absurd d
+work_ends seed count Built image before after program j d = absurd d
+work_ends seed count Usage image before after program j d = absurd d
+work_ends seed count Done image before after program j d = absurd d
+work_ends seed count (Running n) image before after program j d = absurd d
+work_ends seed count (ListRefused kind line) image before after program j d = absurd d
+
 pub complete : (command : Option Asked) (outcome : Outcome) (image : List ℕ) (before after : Outside)
     → Does command outcome image before after → IsComplete command outcome before.files
 complete (Some (go name budgets limit)) outcome image before after d = λ f. go_ends name budgets limit outcome image
@@ -229,4 +250,6 @@ complete (Some (build name target budgets)) outcome image before after d = λ f.
 complete (Some (list name)) outcome image before after d = λ f. list_ends name outcome image before after f d
 complete (Some (assemble name target)) outcome image before after d = λ f. assemble_ends name target outcome image
     before after f d
+complete (Some (work seed count)) outcome image before after d = λ program accepts. work_ends seed count outcome image
+    before after program accepts d
 complete None outcome image before after d = tt

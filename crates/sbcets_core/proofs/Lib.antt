@@ -11,3 +11,4 @@ pub mod Running
 pub mod Spelling
 pub mod Trees
 pub mod Typing
+pub mod WorkCases

@@ -15,7 +15,7 @@ use Rattle.sbcets_core.specs.declared.outcome.Outcome.TheVariants as outcomes
 use Rattle.sbcets_core.specs.Outcomes.{max_image_file, max_listing}
 use Rattle.sbcets_core.specs.Counting.{Counts, CommandCounts}
 use Rattle.sbcets_core.specs.Commands.{Outside, IsRead, IsUnread, DoesNothing, OnlyReads}
-use Rattle.command_line.specs.Asked.{Asked, go, run, build, list, assemble}
+use Rattle.command_line.specs.Asked.{Asked, go, run, build, list, assemble, work}
 use Rattle.sbcets_core.specs.Top.{Does}
 use Rattle.sbcets_core.specs.Listings.{Lists, Assembles, Spells, SpellsNone, ReadsImage, AssembledInto, listing_of}
 use Rattle.sbcets_core.proofs.Cases.{unread_counts}
@@ -185,6 +185,7 @@ memory_does (Some (run name limit)) image before after d = inl d
 memory_does (Some (build name target budgets)) image before after d = inl d
 memory_does (Some (list name)) image before after d = inl d
 memory_does (Some (assemble name target)) image before after d = inl d
+memory_does (Some (work seed count)) image before after d = d
 
 -- the cases of `list`, and of `asm`
 pub ruleset listing = (unread_lists, listed_lists, part_lists, refused_lists, unread_counts)

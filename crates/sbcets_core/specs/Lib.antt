@@ -10,3 +10,4 @@ pub mod Programs
 pub mod Rules
 pub mod Top
 pub mod Trees
+pub mod Works

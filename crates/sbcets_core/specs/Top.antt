@@ -17,10 +17,12 @@ use Rattle.sbcets_core.specs.declared.outcome.Outcome.TheVariants.{Done, Running
 use Rattle.sbcets_core.specs.declared.outcome.Outcome.TheVariants as outcomes
 use Rattle.sbcets_core.specs.Outcomes.{max_source, max_image_file, max_listing, HasLine, tool_line}
 use Rattle.sbcets_core.specs.Accepted.{Judges}
-use Rattle.command_line.specs.Asked.{Asked, build, run, go, list, assemble}
+use Rattle.command_line.specs.Asked.{Asked, build, run, go, list, assemble, work}
+use Rattle.command_line.specs.Generator.{work_source}
 use Rattle.sbcets_core.specs.Counting.{Counts, CommandCounts}
 use Rattle.sbcets_core.specs.Commands.{Held, Outside, DoesNothing, Goes, Runs, Builds}
 use Rattle.sbcets_core.specs.Listings.{Lists, Assembles, Spells}
+use Rattle.sbcets_core.specs.Works.{Works}
 
 -- What the command comes to, its tool line apart. Words that are no command are Usage, and no others; want of memory
 -- may
@@ -32,6 +34,7 @@ Does (Some (build name target budgets)) outcome image before after =
     Builds name target budgets outcome image before after
 Does (Some (list name)) outcome image before after = Lists name outcome image before after
 Does (Some (assemble name target)) outcome image before after = Assembles name target outcome image before after
+Does (Some (work seed count)) outcome image before after = Works seed count outcome image before after
 Does None outcome image before after = ((outcome ≡ Usage) ⊎ (outcome ≡ Memory)) × DoesNothing image before after
 
 -- all that is outside, with the counts of faults
@@ -115,6 +118,15 @@ IsOfBuild program WriteFault = Unit {0}
 IsOfBuild program (outcomes.ReadFault reads.Failed) = Unit {0}
 IsOfBuild program outcome = ⊥
 
+-- what a run of an accepted source of a seed can come to
+abbrev pub IsOfWork : Program → Outcome → Type 0
+IsOfWork program (Refused refusal) = IsRefusalOf program refusal
+IsOfWork program (Exited code) = Unit {0}
+IsOfWork program (Limit n) = Unit {0}
+IsOfWork program Memory = Unit {0}
+IsOfWork program WriteFault = Unit {0}
+IsOfWork program outcome = ⊥
+
 -- what listing an image can come to, and putting one together
 abbrev pub IsOfListing : Outcome → Type 0
 IsOfListing Done = Unit {0}
@@ -161,4 +173,6 @@ IsComplete (Some (build name target budgets)) outcome held =
     (f : IsAcceptedFile held name) → IsOfBuild f.program outcome
 IsComplete (Some (list name)) outcome held = IsReadableFile held name → IsOfListing outcome
 IsComplete (Some (assemble name target)) outcome held = IsListingFile held name → IsOfListing outcome
+IsComplete (Some (work seed count)) outcome held =
+    (program : Program) → Judges (work_source seed count) (Ok program) → IsOfWork program outcome
 IsComplete None outcome held = Unit {0}

@@ -185,9 +185,9 @@ fn built_of<F: Files>(
     }
 }
 
-// Runs an image from its start.
+/// Runs an image from its start.
 #[tactic(auto, using(crate::proofs::Cases::stop_counts))]
-fn run_image<I: Source, O: Sink, E: Sink>(
+pub(crate) fn run_image<I: Source, O: Sink, E: Sink>(
     alloc: Global,
     image: &[u8],
     limit: u64,

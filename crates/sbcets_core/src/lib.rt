@@ -6,6 +6,7 @@
 //! (`specs/Accepted.antt`).
 #![tactic(auto)]
 
+mod alone;
 mod commands;
 mod compiler;
 pub mod laws;
@@ -15,7 +16,9 @@ mod refusal;
 mod report;
 mod top;
 mod typed_program;
+mod works;
 
+pub use command_line::work_source;
 pub use compiler::{MAX_SOURCE, compile};
 pub use image_compiler::Built;
 pub use outcome::{Outcome, ReadFault};

@@ -10,6 +10,7 @@ use crate::commands::{Limits, build, go, run};
 use crate::listings::{assemble, list};
 use crate::outcome::Outcome;
 use crate::report::report;
+use crate::works::work;
 use command_line::{Command, WordsFault, command_of};
 use sb_outside::{Files, Sink, Source};
 use std::alloc::Global;
@@ -17,15 +18,16 @@ use std::alloc::Global;
 /// Does all that the program does. `words` are those after the program's name: `build SRC IMAGE`
 /// compiles the file SRC with some budgets and leaves the image in the file IMAGE; `run IMAGE` runs an image; `go SRC`
 /// compiles and runs; `list IMAGE` puts the listing of an image to the output, and `asm LISTING IMAGE` writes the image
-/// that a listing spells. The bytes that are returned are the image that `go` built and ran, else there
-/// are none. Each command asks for one read of a file, and `build` and `asm` for one write behind it.
+/// that a listing spells. `work SEED COUNT` compiles a source that the seed draws, runs it by itself, and puts four
+/// lines about it. The bytes that are returned are the image that `go` or `work` built and ran, else there
+/// are none. Each command but `work` asks for one read of a file, and `build` and `asm` for one write behind it.
 ///
 /// Usage comes exactly for words that are no command or whose budgets are out of range; then ReadFault
 /// where the file is not read or too long; then Refused, ListRefused or ImageRefused, exactly where the source, the
 /// listing or the image is; then WriteFault where IMAGE is not written. A run ends with Exited, Limit or Trap as the
-/// machine does, or with InputFault or WriteFault where a stream fails; `go` never with Trap. A fault of the outside
-/// comes only
-/// where its count rose, and want of memory may come before anything is written or run.
+/// machine does, or with InputFault or WriteFault where a stream fails; `go` and `work` never with Trap, nor `work` with
+/// InputFault. A fault of the outside comes only where its count rose, and want of memory may come before anything is
+/// written or taken.
 #[tactic(auto, using(crate::proofs::Answering::answers, crate::proofs::Complete::complete))]
 pub fn sbcets<F: Files, I: Source, O: Sink, E: Sink>(
     alloc: Global,
@@ -148,6 +150,7 @@ fn obey<F: Files, I: Source, O: Sink, E: Sink>(
         Command::Assemble { listing, image } => {
             (assemble(alloc, listing, image, files), Vec::new(alloc))
         }
+        Command::Work { seed, count } => work(alloc, seed, count, output, errors),
     }
 }
 

@@ -32,3 +32,9 @@ unfolding command_at
 returns-in-asm-clause-asked c = c.assemble_asked.ensures.asked
     ∙ command_of_name c.args.matches.now c.in_ok-name.matches.now c.in_ok-name.name.now _ c.in_ok-name.ensures.name
     c.in_ok-name.ensures.rows c.in-asm.is
+
+pub returns-in-work-clause-asked : goal.returns-in-work-clause-asked
+unfolding command_at
+returns-in-work-clause-asked c = c.work_asked.ensures.asked
+    ∙ command_of_name c.args.matches.now c.in_ok-name.matches.now c.in_ok-name.name.now _ c.in_ok-name.ensures.name
+    c.in_ok-name.ensures.rows c.in-work.is

@@ -20,6 +20,7 @@ returns c =
     let go_is = c.in_ok-go_words.ensures in
     let list_is = c.in_ok-list_words.ensures in
     let assemble_is = c.in_ok-assemble_words.ensures in
+    let work_is = c.in_ok-work_words.ensures in
     let build = c.in_ok-subcommand.ensures.shape (no_globals _ _ build_is refl)
     ∙ ap₂ with_subcommand top (ap (λ (a : App). a.top) build_is) in
     let run = c.in_ok-subcommand-2.ensures.shape (no_globals _ _ run_is refl)
@@ -28,6 +29,8 @@ returns c =
     ∙ ap₂ with_subcommand run (ap (λ (a : App). a.top) go_is) in
     let listed = c.in_ok-subcommand-4.ensures.shape (no_globals _ _ list_is refl)
     ∙ ap₂ with_subcommand go (ap (λ (a : App). a.top) list_is) in
-    IfOk-weaker c.subcommand-5.result _ _
-    (λ r adds. adds.shape (no_globals _ _ assemble_is refl)
-    ∙ ap₂ with_subcommand listed (ap (λ (a : App). a.top) assemble_is)) c.subcommand-5.ensures
+    let assembled = c.in_ok-subcommand-5.ensures.shape (no_globals _ _ assemble_is refl)
+    ∙ ap₂ with_subcommand listed (ap (λ (a : App). a.top) assemble_is) in
+    IfOk-weaker c.subcommand-6.result _ _
+    (λ r adds. adds.shape (no_globals _ _ work_is refl)
+    ∙ ap₂ with_subcommand assembled (ap (λ (a : App). a.top) work_is)) c.subcommand-6.ensures

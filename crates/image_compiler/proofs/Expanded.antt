@@ -82,6 +82,7 @@ expanded_flat read write entry IsGood map code runtime program flat covered of_r
           low = h.low;
           entries = h.closed;
           contents = h.kept;
+          areas = h.areas;
         };
         of_runtime = of_runtime;
         covered = λ (typed : Program). all_covered (compiled_of typed entry l) covered;

@@ -72,14 +72,10 @@ all_calls t table n tabled all =
 admitted : (t : Tac) (u n : ℕ) (k : CodeFunction) (i : Instruction) → function_in t u ≡ Some k
     → admits_in t k i ≡ admits_with t no_contents u n i
 admitted t u n k (tac.Return a) there = ap (gives_scalar t) (sym there)
-admitted t u n k (tac.Write Void mode line key d a b m) there = refl
-admitted t u n k (tac.Write (OfScalar q) mode line key d a b m) there = refl
-admitted t u n k (tac.Write (Structure size) mode line key d a b m) there = refl
-admitted t u n k (tac.Write (Array size) mode line key d a b m) there = refl
-admitted t u n k (tac.StorePart Void line x offset a m) there = refl
-admitted t u n k (tac.StorePart (OfScalar q) line x offset a m) there = refl
-admitted t u n k (tac.StorePart (Structure size) line x offset a m) there = refl
-admitted t u n k (tac.StorePart (Array size) line x offset a m) there = refl
+admitted t u n k (tac.ZeroOf Void d m) there = refl
+admitted t u n k (tac.ZeroOf (OfScalar q) d m) there = refl
+admitted t u n k (tac.ZeroOf (Structure size) d m) there = refl
+admitted t u n k (tac.ZeroOf (Array size) d m) there = refl
 admitted t u n k i there = refl
 
 pub covered_by_test : (t : Tac) → is_covered_code t ≡ true → IsCoveredCode t no_contents
@@ -108,14 +104,10 @@ passes_test t fails c = true≢false (sym (passes t c) ∙ fails)
 
 admits_is : (c : Compiled) (u n : ℕ) (i : Instruction)
     → admits c u n i ≡ admits_with c.layout.expansion.code c.layout.expansion.contents u n i
-admits_is c u n (tac.Write Void mode line key d a b m) = refl
-admits_is c u n (tac.Write (OfScalar k) mode line key d a b m) = refl
-admits_is c u n (tac.Write (Structure size) mode line key d a b m) = refl
-admits_is c u n (tac.Write (Array size) mode line key d a b m) = refl
-admits_is c u n (tac.StorePart Void line x offset a m) = refl
-admits_is c u n (tac.StorePart (OfScalar k) line x offset a m) = refl
-admits_is c u n (tac.StorePart (Structure size) line x offset a m) = refl
-admits_is c u n (tac.StorePart (Array size) line x offset a m) = refl
+admits_is c u n (tac.ZeroOf Void d m) = refl
+admits_is c u n (tac.ZeroOf (OfScalar k) d m) = refl
+admits_is c u n (tac.ZeroOf (Structure size) d m) = refl
+admits_is c u n (tac.ZeroOf (Array size) d m) = refl
 admits_is c u n i = refl
 
 pub all_covered : (c : Compiled) → IsCoveredCode c.layout.expansion.code c.layout.expansion.contents → AreAllCovered c

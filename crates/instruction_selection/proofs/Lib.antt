@@ -1,3 +1,4 @@
+pub mod StructureAreas
 pub mod BlockObjects
 pub mod Coverages
 pub mod FormatSteps
@@ -11,5 +12,6 @@ pub mod Ranges
 pub mod Regions
 pub mod Routines
 pub mod StaticPlaces
+pub mod StructureLists
 pub mod TypeKeys
 pub mod StartBytes

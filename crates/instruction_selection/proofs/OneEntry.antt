@@ -54,7 +54,10 @@ module _ (i : InlineCode) (m : MapSizes) (t : Tac) (types ours : ℕ → ℕ) (e
   by_one (tac.Narrow offset size d a next) = refl
   by_one (tac.Member offset size d a next) = refl
   by_one tac.Reserved = refl
-  by_one (tac.Take kind line d a next) = refl
+  by_one (tac.Take Void line d a next) = refl
+  by_one (tac.Take (OfScalar k) line d a next) = refl
+  by_one (tac.Take (Structure n) line d a next) = refl
+  by_one (tac.Take (Array n) line d a next) = refl
   by_one (tac.Read kind mode line key d a next) = refl
   by_one (tac.Write Void mode line key d a b next) = refl
   by_one (tac.Write (OfScalar k) mode line key d a b next) = refl

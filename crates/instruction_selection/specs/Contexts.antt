@@ -9,6 +9,7 @@ use Rattle.metadata_plan.specs.Registers.{all_variables}
 use Rattle.metadata_relation.specs.Registers.{parameter_words, total}
 use Rattle.metadata_relation.specs.Blocks.{objects_of_body}
 use Rattle.instruction_selection.specs.declared.context.FunctionContext.{FunctionContext}
+use Rattle.instruction_selection.specs.Areas.{HasTable}
 use Rattle.instruction_selection.specs.Blocks.{AreObjectsAmong}
 use Rattle.instruction_selection.specs.Registers.{AreRegisters}
 use Rattle.instruction_selection.specs.Statics.{AreStaticPlaces}
@@ -30,8 +31,8 @@ pub record CanBeCalled (function : CodeFunction) : Type 0 where
   pub bytes : block_bytes (objects_of_body function) ≤ 2 ^ 62
   pub words : total parameter_words function.parameters < 2 ^ 31
 
--- All of this; functions have addresses in the jump table; and the objects that a block or the body declares are objects
--- of the function.
+-- All of this; functions have addresses in the jump table; the objects that a block or the body declares are objects of the
+-- function; and a table tells where its areas are.
 pub record IsPrepared (context : FunctionContext) : Type 0 where
   pub registers : HasRegisters context
   pub statics : HasStatics context
@@ -43,3 +44,4 @@ pub record IsPrepared (context : FunctionContext) : Type 0 where
   pub among : AreObjectsAmong (all_variables context.function.now) (objects_of_body context.function.now)
   pub sizes : (x : ℕ) → size_of_kind (at_number (all_variables context.function.now) x).kind ≤ 2 ^ 62
   pub blocks : (b : ℕ) → block_bytes (objects_in (Some context.function.now) b) ≤ 2 ^ 62
+  pub areas : HasTable context.areas.now context.program.now context.function.now

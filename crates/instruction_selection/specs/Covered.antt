@@ -1,5 +1,5 @@
 -- Which programs are covered, over their code and the contents of temporaries alone.
-use Rattle.std.specs.Prelude.{◌≡◌, ℕ, Bool, true, false, not, ◌&&◌, List, map, Some, slice_get}
+use Rattle.std.specs.Prelude.{◌≡◌, ℕ, Bool, true, false, ◌&&◌, List, map, Some, slice_get}
 use Rattle.std.specs.List.{list_all}
 use Rattle.c_tree.specs.declared.expression.Kind.{Kind}
 use Rattle.c_tree.specs.declared.expression.Kind.TheVariants.{Void, Scalar as OfScalar, Structure, Array}
@@ -25,13 +25,8 @@ no_contents u n y = false
 
 -- what `admits` asks, of these
 abbrev pub admits_with : Tac → ProgramContents → (function node : ℕ) → Instruction → Bool
-admits_with t contents u n (tac.Read kind mode line key d a m) = not (contents u n a)
-admits_with t contents u n (tac.Write (Structure size) mode line key d a b m) =
-    not (contents u n a) && not (contents u n b)
-admits_with t contents u n (tac.Write kind mode line key d a b m) = not (contents u n a)
-admits_with t contents u n (tac.StorePart (Structure size) line x offset a m) = not (contents u n a)
-admits_with t contents u n (tac.Update w k f mode line at key d a right m) = not (contents u n a)
-admits_with t contents u n (tac.Member offset size d a m) = not (contents u n a)
+admits_with t contents u n (tac.ZeroOf (Structure size) d m) = contents u m d
+admits_with t contents u n (tac.Take kind line d a m) = contents u m d
 admits_with t contents u n (tac.Print x line d count m) = have_bytes (pieces_or_none (pieces (text_in t x)))
 admits_with t contents u n (tac.Call f line d count m) = is_scalar_call t (function_in t f)
 admits_with t contents u n (tac.CallThrough type_number line d count m) = are_scalar_calls t type_number t.functions
@@ -47,6 +42,8 @@ pub record IsCoveredCode (program : Tac) (contents : ProgramContents) : Type 0 w
 -- ---- as it is tested, where no temporary has contents
 
 abbrev pub admits_in : Tac → CodeFunction → Instruction → Bool
+admits_in t k (tac.ZeroOf (Structure size) d m) = false
+admits_in t k (tac.Take kind line d a m) = false
 admits_in t k (tac.Print x line d count m) = have_bytes (pieces_or_none (pieces (text_in t x)))
 admits_in t k (tac.Call f line d count m) = is_scalar_call t (function_in t f)
 admits_in t k (tac.CallThrough type_number line d count m) = are_scalar_calls t type_number t.functions
@@ -80,6 +77,7 @@ pub record IsTabled (coverage : Coverage) : Type 0 where
 -- those that go by a type, a size or a mode of their own
 abbrev pub is_tested : Instruction → Bool
 is_tested (tac.ZeroOf kind d m) = true
+is_tested (tac.Take kind line d a m) = true
 is_tested (tac.Offset form size d a b m) = true
 is_tested (tac.Judge test size line key a m) = true
 is_tested (tac.Case a w x y) = true

@@ -1,3 +1,5 @@
+pub mod Areas
+pub mod Structures
 pub mod Words
 pub mod Calls
 pub mod Formats

@@ -1,5 +1,7 @@
 -- The numbers of a function's virtual registers, as a struct has them.
 use Rattle.std.specs.Prelude.{◌≡◌, ℕ, ◌+◌, ◌*◌, ◌^◌, ◌≤◌, Bool, true, length, Some, get_or}
+use Rattle.c_tree.specs.declared.expression.Kind.{Kind}
+use Rattle.c_tree.specs.declared.expression.Kind.TheVariants.{Structure}
 use Rattle.c_tree.specs.Format.{directives, pieces}
 use Rattle.source_meaning.specs.Printing.{pieces_or_none}
 use Rattle.source_meaning.specs.Blocks.{has_objects}
@@ -42,14 +44,26 @@ abbrev pub function_named : Instruction → ℕ
 function_named (tac.FunctionPointer d f m) = f
 function_named i = 0
 
+-- the bytes of a structure that is made of zeros, or taken
+abbrev pub bytes_of_structure : Kind → ℕ
+bytes_of_structure (Structure n) = n
+bytes_of_structure kind = 0
+
+abbrev pub structure_taken : Instruction → ℕ
+structure_taken (tac.ZeroOf kind d m) = bytes_of_structure kind
+structure_taken (tac.Take kind line d a m) = bytes_of_structure kind
+structure_taken i = 0
+
 -- a block that is left has objects
 abbrev pub leaves_objects : CodeFunction → Instruction → Bool
 leaves_objects c (tac.LeaveBlock b m) = has_objects (objects_in (Some c) b)
 leaves_objects c i = true
 
--- an instruction names temporaries of its function, and functions that have an address in the jump table
+-- an instruction names temporaries of its function, and functions that have an address in the jump table, and takes
+-- structures whose bytes have a number of 62 bits
 pub record IsAmong (program : Tac) (function : CodeFunction) (instruction : Instruction) : Type 0 where
   pub temporaries : temporaries instruction ≤ most_temporaries function.code
   pub handed : last_handed program instruction ≤ most_temporaries function.code
   pub functions : function_named instruction ≤ 2 ^ 12
   pub left : leaves_objects function instruction ≡ true
+  pub taken : structure_taken instruction ≤ 2 ^ 62

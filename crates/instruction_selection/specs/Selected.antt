@@ -10,36 +10,48 @@ use Rattle.sb_base.specs.declared.ending.Ending.TheVariants.{Abort}
 use Rattle.flat_code.specs.declared.instruction.FlatInstruction.TheVariants.{Constant, End}
 use Rattle.tac_ir.specs.declared.function.CodeFunction.{CodeFunction}
 use Rattle.tac_ir.specs.declared.function.Tac.{Tac}
+use Rattle.addr_map.specs.Places.{MapSizes}
 use Rattle.metadata_plan.specs.Entries.{Entries}
 use Rattle.metadata_relation.specs.Registers.{first_free}
 use Rattle.metadata_relation.specs.InlineCode.{InlineCode}
 use Rattle.metadata_relation.specs.InlineLists.{inline_lists}
 use Rattle.metadata_relation.specs.Blocks.{Expansion, block, write_code, held_scalar, part_address, untagged}
 use Rattle.metadata_relation.specs.Blocks.{runtime_number, write_structure_code}
-use Rattle.metadata_relation.specs.Structures.{copy_code}
+use Rattle.metadata_relation.specs.Structures.{put_code, take_structure_code, zero_structure_code}
 use Rattle.instruction_selection.specs.declared.context.FunctionContext.{FunctionContext}
 use Rattle.instruction_selection.specs.Contexts.{type_at}
 
 -- a value of a kind is assigned through a pointer, where it is a scalar or a structure
-abbrev pub assigned_code : InlineCode → Tac → Kind → (with_entry : Bool) → (into pointer value scratch : ℕ)
+abbrev pub assigned_code : InlineCode → Tac → Kind → (has_area with_entry : Bool) → (into pointer value scratch : ℕ)
     → List FlatInstruction
-assigned_code i t (OfScalar k) b d p a s = write_code i k b d p a s
-assigned_code i t (Structure size) b d p a s = write_structure_code i.operators t b size d p a s
-assigned_code i t kind b d p a s = End (Abort 1) ∷ []
+assigned_code i t (OfScalar k) area b d p a s = write_code i k b d p a s
+assigned_code i t (Structure size) area b d p a s = write_structure_code i.operators t area b size d p a s
+assigned_code i t kind area b d p a s = End (Abort 1) ∷ []
 
 -- a value of a kind is stored in the object of a variable, where it is a scalar or a structure
-abbrev pub part_code : InlineCode → Tac → CodeFunction → Kind → (variable offset from : ℕ) → List FlatInstruction
-part_code i t c (OfScalar k) x offset a =
+abbrev pub part_code : InlineCode → Tac → CodeFunction → Kind → (has_area : Bool) → (variable offset from : ℕ)
+    → List FlatInstruction
+part_code i t c (OfScalar k) area x offset a =
     part_address i.operators c x offset (first_free c)
     ++ i.store (first_free c) (held_scalar k a) (first_free c + 1)
-part_code i t c (Structure size) x offset a =
-    part_address i.operators c x offset (first_free c) ++ copy_code i.operators (runtime_number t) a size (first_free c)
-part_code i t c kind x offset a = End (Abort 1) ∷ []
+part_code i t c (Structure size) area x offset a =
+    part_address i.operators c x offset (first_free c)
+    ++ put_code i.operators (runtime_number t) area a size (first_free c)
+part_code i t c kind area x offset a = End (Abort 1) ∷ []
 
--- a value of a kind is 0
-abbrev pub zero_of_code : Kind → (with_entry : Bool) → (into : ℕ) → List FlatInstruction
-zero_of_code (Structure n) b d = End (Abort 1) ∷ []
-zero_of_code kind b d = Constant d 0 ∷ untagged b d
+-- a value of a kind is 0, in a temporary
+abbrev pub zero_of_code : InlineCode → MapSizes → Tac → CodeFunction → Kind → (with_entry : Bool) → (temporary into : ℕ)
+    → List FlatInstruction
+zero_of_code i m t c (Structure size) b n d =
+    zero_structure_code i.operators m t c (runtime_number t) b size n d (first_free c)
+zero_of_code i m t c kind b n d = Constant d 0 ∷ untagged b d
+
+-- the contents of a structure are taken to a temporary
+abbrev pub take_code : InlineCode → MapSizes → Tac → CodeFunction → Kind → (with_entry : Bool)
+    → (temporary into from : ℕ) → List FlatInstruction
+take_code i m t c (Structure size) b n d a =
+    take_structure_code i.operators m t c (runtime_number t) b size n d a (first_free c)
+take_code i m t c kind b n d a = End (Abort 1) ∷ []
 
 -- the temporary that an instruction gives, if any, has an entry behind it
 abbrev pub entry_behind : Entries → Instruction → Bool
@@ -57,6 +69,7 @@ entry_behind e (tac.Offset form size d a b m) = e m d
 entry_behind e (tac.Difference size d a b m) = e m d
 entry_behind e (tac.Narrow offset size d a m) = e m d
 entry_behind e (tac.Member offset size d a m) = e m d
+entry_behind e (tac.Take kind line d a m) = e m d
 entry_behind e (tac.Read kind mode line key d a m) = e m d
 entry_behind e (tac.Write kind mode line key d a b m) = e m d
 entry_behind e (tac.Update w k f mode line at key d a right m) = e m d
@@ -94,11 +107,16 @@ is_plain _ = false
 
 -- values computed from others
 abbrev pub is_computed : Instruction → Bool
-is_computed (tac.ZeroOf kind d m) = true
 is_computed (tac.Convert kind d a m) = true
 is_computed (tac.Unary op ty d a m) = true
 is_computed (tac.Binary op ty line d a b m) = true
 is_computed _ = false
+
+-- zeros, and contents that are taken
+abbrev pub is_made : Instruction → Bool
+is_made (tac.ZeroOf kind d m) = true
+is_made (tac.Take kind line d a m) = true
+is_made _ = false
 
 -- pointers to what is named
 abbrev pub is_name_pointer : Instruction → Bool

@@ -1,13 +1,15 @@
 //! What the flat code of the instructions of a function is made from.
 
-ghost use Rattle.std.specs.Prelude.{◌≡◌, ◌+◌, ◌-◌, ◌*◌, ◌<◌, ◌≤◌, ◌^◌, true, length, Some, slice_get};
+ghost use Rattle.std.specs.Prelude.{◌≡◌, ◌+◌, ◌-◌, ◌*◌, ◌<◌, ◌≤◌, ◌^◌, true, get_or, length, Some, slice_get};
 ghost use Rattle.metadata_plan.specs.Registers.{most_temporaries};
 ghost use Rattle.metadata_relation.specs.Registers.{variable_register, home_register, temporary_register};
 ghost use Rattle.metadata_relation.specs.Registers.{moved_register};
 ghost use Rattle.metadata_relation.specs.Registers.{first_free};
 ghost use Rattle.metadata_relation.specs.Registers.{parameters_end, total};
 ghost use Rattle.metadata_relation.specs.Registers.{variable_words};
-ghost use Rattle.instruction_selection.specs.Contexts.{HasRegisters, type_at};
+ghost use Rattle.tac_ir.specs.Structures.{structures_below};
+ghost use Rattle.metadata_relation.specs.Structures.{has_area};
+ghost use Rattle.instruction_selection.specs.Contexts.{HasRegisters, IsPrepared, type_at};
 
 use crate::registers::{Registers, argument_words};
 use crate::statics::StaticPlace;
@@ -33,6 +35,8 @@ pub struct FunctionContext<'a> {
     pub statics: &'a [StaticPlace],
     /// What the keys of pointers to the functions tell of their types, by their numbers.
     pub types: &'a [u64],
+    /// The bytes of the structures of the temporaries before each one, and before all.
+    pub areas: &'a [u64],
 }
 
 impl<'a> FunctionContext<'a> {
@@ -105,6 +109,37 @@ impl<'a> FunctionContext<'a> {
             ≤ self.now.registers.now.free }
     {
         self.registers.moved(self.function, 5 * first)
+    }
+
+    // What the table of areas has for a temporary.
+    fn area_sum(&self, temporary: usize) -> u64
+        ensures { result ≡ get_or self.now.areas.now temporary 0 }
+    {
+        match self.areas.get(temporary) {
+            Some(bytes) => *bytes,
+            None => 0,
+        }
+    }
+
+    /// The bytes of the structures of the temporaries before one.
+    #[tactic(auto, using(crate::proofs::StructureAreas::table_tells, crate::proofs::StructureAreas::table_fits))]
+    pub fn structures_below(&self, temporary: usize) -> u64
+        requires prepared { IsPrepared self.now }
+        requires there { temporary ≤ most_temporaries self.now.function.now.code }
+        ensures value { result ≡ structures_below self.now.program.now self.now.function.now.code temporary }
+        ensures room { 5 * result ≤ self.now.function.now.room }
+    {
+        self.area_sum(temporary)
+    }
+
+    /// Whether a temporary has an area for structures.
+    #[tactic(auto, using(crate::proofs::StructureAreas::more_below))]
+    pub fn has_area(&self, temporary: usize) -> bool
+        requires prepared { IsPrepared self.now }
+        requires there { temporary < most_temporaries self.now.function.now.code }
+        ensures { result ≡ has_area self.now.program.now self.now.function.now temporary }
+    {
+        self.structures_below(temporary) < self.structures_below(temporary + 1)
     }
 
     /// The first register that is free.

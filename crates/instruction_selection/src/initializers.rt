@@ -6,7 +6,7 @@ ghost use Rattle.flat_code.specs.declared.instruction.FlatInstruction.TheVariant
 ghost use Rattle.metadata_relation.specs.InlineLists.{inline_lists};
 ghost use Rattle.tac_ir.specs.Meaning.{text_in};
 ghost use Rattle.metadata_relation.specs.Blocks.{part_address, held_scalar, store_bytes, runtime_number};
-ghost use Rattle.metadata_relation.specs.Structures.{copy_code};
+ghost use Rattle.metadata_relation.specs.Structures.{put_code};
 ghost use Rattle.metadata_plan.specs.OperatorLists.Operators.{operators};
 ghost use Rattle.metadata_relation.specs.Registers.{first_free};
 ghost use Rattle.lib_wrappers.specs.AccessRoutines.Accessing.{store_code};
@@ -17,7 +17,7 @@ use crate::accesses::{held_scalar, put_store};
 use crate::context::FunctionContext;
 use crate::list::put;
 use crate::pointers::put_member_address;
-use crate::structures::put_copy;
+use crate::structures::put_moved;
 use c_tree::Kind;
 use flat_code::{FlatInstruction, RightOperand};
 use obj_memory::Scalar;
@@ -56,27 +56,31 @@ fn put_structure_part(
     code: &mut Vec<FlatInstruction>,
     context: &FunctionContext,
     size: u64,
+    has_area: bool,
     variable: usize,
     offset: u64,
     from: u32,
 ) -> Result<(), AllocError>
-    requires { IsPrepared context.now }
+    requires prepared { IsPrepared context.now }
+    requires from { from + 5 ≤ context.now.registers.now.free }
     ensures { OnOk result (code.new.items ≡ code.old.items
         ++ (part_address operators context.now.function.now variable offset (first_free context.now.function.now)
-        ++ copy_code operators (runtime_number context.now.program.now) from size (first_free context.now.function.now))) }
+        ++ put_code operators (runtime_number context.now.program.now) has_area from size
+        (first_free context.now.function.now))) }
 {
     let free = context.free();
     let home = context.home(variable);
     put_member_address(code, offset, free, home, free)?;
-    put_copy(code, context, from, size, free)
+    put_moved(code, context, has_area, from, size, free)
 }
 
 /// Puts a value of a kind stored in the object of a variable, so many bytes from its beginning, behind a list, where it
-/// is a scalar or a structure; else the run ends. It fails only for want of memory.
+/// is a scalar or a structure, whose temporary may have an area; else the run ends. It fails only for want of memory.
 pub fn put_part<S: ShadowForm>(
     code: &mut Vec<FlatInstruction>,
     context: &FunctionContext,
     kind: Kind,
+    has_area: bool,
     variable: usize,
     offset: u64,
     from: u32,
@@ -85,13 +89,15 @@ pub fn put_part<S: ShadowForm>(
     requires from { from + 5 ≤ context.now.registers.now.free }
     ensures { OnOk result (code.new.items ≡ code.old.items
         ++ part_code (inline_lists S.entry_read S.entry_write context.now.map.now) context.now.program.now
-        context.now.function.now kind variable offset from) }
+        context.now.function.now kind has_area variable offset from) }
 {
     match kind {
         Kind::Scalar(scalar) => {
             put_scalar_part::<S>(code, context, scalar, variable, offset, from)
         }
-        Kind::Structure(size) => { put_structure_part(code, context, size, variable, offset, from) }
+        Kind::Structure(size) => {
+            put_structure_part(code, context, size, has_area, variable, offset, from)
+        }
         Kind::Void | Kind::Array(_) => {
             put(code, FlatInstruction::End(Ending::Abort(Line::first())))
         }

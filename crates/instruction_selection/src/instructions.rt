@@ -14,6 +14,7 @@ use crate::selection::calls::put_called;
 use crate::selection::computed::put_computed;
 use crate::selection::control::put_control;
 use crate::selection::derived::put_derived;
+use crate::selection::made::put_made;
 use crate::selection::names::put_name_pointer;
 use crate::selection::objects::put_of_objects;
 use crate::selection::plain::put_plain;
@@ -49,10 +50,11 @@ pub fn put_instruction<S: ShadowForm>(
         | Instruction::GetPlain { .. }
         | Instruction::SetPlain { .. }
         | Instruction::UpdatePlain { .. } => put_plain(code, context, instruction, with_entry),
-        Instruction::ZeroOf { .. }
-        | Instruction::Convert { .. }
-        | Instruction::Unary { .. }
-        | Instruction::Binary { .. } => put_computed(code, context, instruction, with_entry),
+        Instruction::ZeroOf { .. } | Instruction::Take { .. } => {
+            put_made(code, context, instruction, with_entry)
+        }
+        Instruction::Convert { .. } | Instruction::Unary { .. } | Instruction::Binary { .. } =>
+            put_computed(code, context, instruction, with_entry),
         Instruction::HomePointer { .. }
         | Instruction::StaticPointer { .. }
         | Instruction::FunctionPointer { .. } => {
@@ -79,6 +81,6 @@ pub fn put_instruction<S: ShadowForm>(
         | Instruction::Print { .. }
         | Instruction::Call { .. }
         | Instruction::CallThrough { .. } => put_called(code, context, instruction, with_entry),
-        Instruction::Reserved | Instruction::Take { .. } => put_abort(code),
+        Instruction::Reserved => put_abort(code),
     }
 }

@@ -3,11 +3,13 @@
 #![tactic(auto)]
 
 pub mod accesses;
+pub mod areas;
 pub mod blocks;
 pub mod bodies;
 pub mod call_tests;
 pub mod calls;
 pub mod checks;
+pub mod contents;
 pub mod context;
 pub mod covered;
 pub mod entries;

@@ -32,6 +32,18 @@ pub const COPY_PLACE: u32 = 24;
 /// The place of the one that makes the objects of a block.
 pub const ENTER_PLACE: u32 = 25;
 
+/// The place of the one that makes a structure of zeros in an area.
+pub const ZERO_AREA_PLACE: u32 = 26;
+
+/// The place of the one that takes a structure from its place to an area.
+pub const TAKE_AREA_PLACE: u32 = 27;
+
+/// The place of the one that puts a part of contents to a place.
+pub const PUT_AREA_PLACE: u32 = 28;
+
+/// The place of the one that moves a part of contents to an area.
+pub const MOVE_AREA_PLACE: u32 = 29;
+
 /// The statuses with which the objects of a block are not made.
 pub const ENTER_STATUSES: [ReturnStatus; 2] = [ReturnStatus::Stack, ReturnStatus::Keys];
 

@@ -5,6 +5,7 @@ pub mod calls;
 pub mod computed;
 pub mod control;
 pub mod derived;
+pub mod made;
 pub mod names;
 pub mod objects;
 pub mod plain;

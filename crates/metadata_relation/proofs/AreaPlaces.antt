@@ -3,7 +3,7 @@
 use Rattle.std.proofs.Common.{◌≡◌, ◌≢◌, ◌⊎◌, inl, inr, ⊎_elim, ℕ, zero, suc, ◌+◌, ◌-◌, ◌*◌, ◌%◌, ◌<◌, ◌≤◌}
 use Rattle.std.proofs.Common.{Bool, true, false, if◌then◌else◌, List, [], ◌∷◌, Some, refl, ap, arith}
 use Rattle.std.specs.Prelude.{◌==◌, slice_get}
-use Rattle.std.proofs.lemmas.Bool.{cases_lt}
+use Rattle.std.proofs.lemmas.Bool.{cases_lt, leb-false}
 use Rattle.std.proofs.lemmas.Option.{same_Some}
 use Rattle.addr_map.specs.declared.region.Region.TheVariants.{StructureValues}
 use Rattle.addr_map.specs.Places.{AreMapped, MapSizes, region_end, region_size, region_start}
@@ -18,7 +18,7 @@ use Rattle.tac_ir.specs.Meaning.{function_in}
 use Rattle.tac_ir.specs.Structures.{greatest_structure, result_of, result_of_type, structure_put, structures_below}
 use Rattle.lib_wrappers.specs.AreaRoutines.Areas.{area_bytes, IsAreaPlace}
 use Rattle.metadata_relation.specs.Holding.{area_of}
-use Rattle.metadata_relation.specs.Structures.{HasAreas}
+use Rattle.metadata_relation.specs.Structures.{has_area, HasAreas}
 
 -- ---- how many bytes
 
@@ -55,6 +55,10 @@ put_most t [] i n j h = cc
 put_most t (k ∷ js) i zero j h =
     let same = ap (λ x. structure_put t x i) (same_Some k j h) in omega (arith, same)
 put_most t (k ∷ js) i (suc n) j h = omega (arith, put_most t js i n j h)
+
+-- of a temporary without an area no structure is put into
+pub no_area : (t : Tac) (c : CodeFunction) (i : ℕ) → has_area t c i ≡ false → greatest_structure t c.code i ≡ 0
+no_area t c i e = let none = leb-false 1 (greatest_structure t c.code i) e in omega arith
 
 -- contents take no more than five bytes for each
 pub area_within : (size greatest : ℕ) → greatest % 16 ≡ 0 → size ≤ greatest → area_bytes size ≤ 5 * greatest

@@ -78,21 +78,22 @@ area_held true r a e size area values low bound at ends =
     let one : flat.Values = put values r (values a) in
     let two : flat.Values = put one (r + 1) (one a) in
     let three : flat.Values = put two (r + 2) (two e) in
-    let four : flat.Values = put three (r + 4) 0 in
+    let no_key : flat.Values = put three (r + 3) 0 in
+    let four : flat.Values = put no_key (r + 4) 0 in
     let first : one a ≡ area = put_other values r (values a) a (λ q. omega arith) ∙ at in
     let second : two e ≡ entries_begin area size =
     put_other one (r + 1) (one a) e (λ q. omega arith) ∙ put_other values r (values a) e (λ q. omega arith) ∙ ends in
     let word : four r ≡ area =
-    put_other three (r + 4) 0 r (λ q. omega arith) ∙ put_other two (r + 2) (two e) r (λ q. omega arith)
+    put_other no_key (r + 4) 0 r (λ q. omega arith) ∙ put_other three (r + 3) 0 r (λ q. omega arith) ∙ put_other two (r + 2) (two e) r (λ q. omega arith)
     ∙ put_other one (r + 1) (one a) r (λ q. omega arith) ∙ put_same values r (values a) ∙ at in
     record {
       word = word ∙ omega arith;
       entry = λ q. record {
         part = word ∙ omega arith;
-        base = put_other three (r + 4) 0 (r + 1) (λ q. omega arith)
+        base = put_other no_key (r + 4) 0 (r + 1) (λ q. omega arith) ∙ put_other three (r + 3) 0 (r + 1) (λ q. omega arith)
             ∙ put_other two (r + 2) (two e) (r + 1) (λ q. omega arith) ∙ put_same one (r + 1) (one a) ∙ first;
-        bound = put_other three (r + 4) 0 (r + 2) (λ q. omega arith) ∙ put_same two (r + 2) (two e) ∙ second;
-        no_lock = put_same three (r + 4) 0;
+        bound = put_other no_key (r + 4) 0 (r + 2) (λ q. omega arith) ∙ put_other three (r + 3) 0 (r + 2) (λ q. omega arith) ∙ put_same two (r + 2) (two e) ∙ second;
+        no_lock = put_same no_key (r + 4) 0;
       };
       others = λ y out. by y out;
     }
@@ -102,7 +103,9 @@ area_held true r a e size area values low bound at ends =
         let one : flat.Values = put values r (values a) in
         let two : flat.Values = put one (r + 1) (one a) in
         let three : flat.Values = put two (r + 2) (two e) in
-        put_other three (r + 4) 0 y (apart y 4 (omega arith) out) ∙ put_other two (r + 2) (two e) y
+        let no_key : flat.Values = put three (r + 3) 0 in
+        put_other no_key (r + 4) 0 y (apart y 4 (omega arith) out) ∙ put_other three (r + 3) 0 y (apart y 3 (omega arith) out)
+        ∙ put_other two (r + 2) (two e) y
         (apart y 2 (omega arith) out)
         ∙ put_other one (r + 1) (one a) y (apart y 1 (omega arith) out)
         ∙ put_other values r (values a) y (beside_ne y r out)
@@ -111,7 +114,7 @@ area_held true r a e size area values low bound at ends =
         apart y j lt (inl below) q = absurd (omega arith)
         apart y j lt (inr above) q = absurd (omega arith)
 
-pub hold_few : (b : Bool) (r a e : ℕ) → AreFew 4 (hold_area b r a e)
+pub hold_few : (b : Bool) (r a e : ℕ) → AreFew 5 (hold_area b r a e)
 hold_few false r a e = record { assign = refl; few = omega arith }
 hold_few true r a e = record { assign = refl; few = omega arith }
 
@@ -170,6 +173,14 @@ module _ (c : Compiled) (IsGood : Bytes → Type 0) (right : IsCompiled c IsGood
       h.wait.by in
       let own = areas.whole in
       area_place (map_of c) right.mapped t h.code s.charged d size areas (omega arith) (omega arith) h.fits small
+
+  -- no address in an area wraps
+  pub place_low : {size area : ℕ} → IsAreaPlace (map_of c) size area → area + size < 2 ^ 64
+  place_low lies =
+      let last = lies.last in
+      let cell = cell_place (map_of c) right.mapped in
+      let behind = cell.behind in let small = cell.small in
+      omega arith
 
   -- ---- its address
 
@@ -479,7 +490,7 @@ module _ (c : Compiled) (IsGood : Bytes → Type 0) (right : IsCompiled c IsGood
       → IsArea (views c) h.keys k (area_of (map_of c) c.layout.expansion.code h.code s.charged d) y.memory
       → KeepsBut (area_of (map_of c) c.layout.expansion.code h.code s.charged d) (area_bytes k.size) v.memory y.memory
       → y.turns ≡ v.turns → ((r : ℕ) → r < first_free h.code → y.values r ≡ v.values r)
-      → IsSoundObject (views c).functions s.objects k → most + 10 + factor * s.work ≤ factor * work
+      → IsSoundObject (views c).functions s.objects k → most + 12 + factor * s.work ≤ factor * work
       → Result c IsGood (Stands u next (with_temp temps d (record { value = integer 0; contents = Some k })) ws
       (record s { work = work })) (flat.Stands u (c.layout.address u n) v xs)
   contents_left i nd d next a e q k counted work most y gives leads low a_free e_free within may all has on at ends for
@@ -491,11 +502,11 @@ module _ (c : Compiled) (IsGood : Bytes → Type 0) (right : IsCompiled c IsGood
       let list = hold_area b (T d) a e in
       let hold = area_held b (T d) a e k.size A y.values (omega arith) (omega arith) at ends in
       let last = assigned list y.values in
-      let f = ends_with c IsGood right u n temps ws s v xs h q most 4 next y list all (hold_few b (T d) a e) has on in
+      let f = ends_with c IsGood right u n temps ws s v xs h q most 5 next y list all (hold_few b (T d) a e) has on in
       let after : flat.State = record y { values = last; work = f.0 } in
       let stands = for_worked (views c) h.keys IsGood (record s { work = counted }) work y for in
       let whole = area_within k.size G (greatest_whole t h.code.code d) within in
-      leaves_area i nd d next (record { value = integer 0; contents = Some k }) work after (most + 2 * 4 + 2) gives
+      leaves_area i nd d next (record { value = integer 0; contents = Some k }) work after (most + 2 * 5 + 2) gives
       leads low
       f.1
       (record {
@@ -515,8 +526,9 @@ module _ (c : Compiled) (IsGood : Bytes → Type 0) (right : IsCompiled c IsGood
         others = λ r lt out. hold.others r out ∙ others r lt;
         given = record {
           by = record {
-            word = hold.word;
-            entry = hold.entry;
+            word = hold.word ∙ omega (arith, place_low (place_here d k.size within));
+            entry = λ q. (let part = hold.entry q in
+                record { base = part.base; bound = part.bound; no_lock = part.no_lock });
             place = place_here d k.size within;
             small = within;
             area_is = lies;

@@ -55,6 +55,7 @@ use Rattle.metadata_relation.proofs.RuntimeCalls.{runtime_call, site}
 use Rattle.metadata_relation.proofs.Setting.{functions_same}
 use Rattle.metadata_relation.proofs.Standing.{good_now}
 use Rattle.metadata_relation.proofs.TakenStructures.{part_moved, part_others}
+use Rattle.metadata_relation.proofs.TopCell.{cell_place}
 
 module _ (c : Compiled) (IsGood : Bytes → Type 0) (right : IsCompiled c IsGood) (u n : ℕ) (temps : Temps)
     (ws : List Frame) (s : State) (v : flat.State) (xs : List flat.Frame)
@@ -111,7 +112,7 @@ module _ (c : Compiled) (IsGood : Bytes → Type 0) (right : IsCompiled c IsGood
     abbrev d_place : Place
     d_place = place_in s.objects to.object p.word
 
-    copy_is : (line : ℕ) → copy_value (Some from) size false p line (integer q.word) (spent w s)
+    pub copy_is : (line : ℕ) → copy_value (Some from) size false p line (integer q.word) (spent w s)
         ≡ Gives tt (put_there w size (place_in s.objects to.object p.word) q.word from)
     copy_is line = ap (λ o. on (place_or_stop o line paid) (λ d. put_contents size d q.word from))
         (direct_named s.objects p size to)
@@ -123,8 +124,18 @@ module _ (c : Compiled) (IsGood : Bytes → Type 0) (right : IsCompiled c IsGood
     work_is : work_of (putting from size false p 1 q) (spent w s) ≡ size
     work_is = ap (λ o. (state_of o).work - (spent w s).work) run_is ∙ omega arith
 
+    area_low : area + from.size < 2 ^ 64
+    area_low =
+        let last = held.place.last in
+        let cell = cell_place (map_of c) right.mapped in
+        let behind = cell.behind in let small = cell.small in
+        omega arith
+
     word_low : q.word < 2 ^ 64
-    word_low = let word = held.word in let all = words.0.values (T i) in omega arith
+    word_low = let end = area_low in omega (arith, inside)
+
+    word_is : v.values (temporary_register h.code i) ≡ area + q.word
+    word_is = let end = area_low in held.word ∙ omega (arith, inside)
 
     leaves : Leaves (context_at (names c) u ws) (spent w s)
         (put_there w size (place_in s.objects to.object p.word) q.word from)
@@ -163,7 +174,7 @@ module _ (c : Compiled) (IsGood : Bytes → Type 0) (right : IsCompiled c IsGood
       pub puts : HasPut w size (place_in s.objects to.object p.word) q.word from (place + length
           (part_call_code c.layout.expansion.inline.operators (runtime_number c.layout.expansion.code put_area_place)
           size
-          (temporary_register h.code i) (first_free h.code))) (most + 99 + 16 * size)
+          (temporary_register h.code i) (first_free h.code))) (most + 101 + 16 * size)
       puts =
           let m = map_of c in
           let f = c.layout.program in
@@ -184,8 +195,8 @@ module _ (c : Compiled) (IsGood : Bytes → Type 0) (right : IsCompiled c IsGood
           let moving = assigns m f u xs moves refl at_moves v1 (has_front body at_moves moves call has_moves) in
           let last = assigned moves made.after in
           let v2 : flat.State = record v { values = last; work = v1.work + moving.work } in
-          let at_call = at_moves + 4 in
-          let two = reached_next m f u xs pc at_moves at_call v v1 (record v1 { values = last }) (most + 10) 8 one
+          let at_call = at_moves + 5 in
+          let two = reached_next m f u xs pc at_moves at_call v v1 (record v1 { values = last }) (most + 10) 10 one
           moving in
           let has_call = has_back body at_moves moves call has_moves in
           let stay = λ (y : ℕ) (lt : y < free + 1).
@@ -193,7 +204,7 @@ module _ (c : Compiled) (IsGood : Bytes → Type 0) (right : IsCompiled c IsGood
           ∙ made.others y (omega arith) (λ e. omega arith) in
           let before = λ (y : ℕ) (lt : y < free). made.others y (omega arith) (λ e. omega arith) ∙ same y lt in
           let ready : HoldsPart (held_from (T i)) from.size q.word area made.after = record {
-            part = before (T i) (omega arith) ∙ part.part;
+            part = before (T i) (omega arith) ∙ word_is;
             base = before (T i + 1) (omega arith) ∙ part.base;
             bound = before (T i + 2) (omega arith) ∙ part.bound;
             no_lock = before (T i + 4) (omega arith) ∙ part.no_lock;
@@ -211,7 +222,7 @@ module _ (c : Compiled) (IsGood : Bytes → Type 0) (right : IsCompiled c IsGood
           (length c.setting.functions) c.layout.expansion.types h.keys paid from size false p 1 q area
           (record { calls = called.calls; is = called.of.is }) called.of.code.0
           (record {
-            words = reached_words m f u xs pc at_call v v2 (most + 10 + 8) words two;
+            words = reached_words m f u xs pc at_call v v2 (most + 10 + 10) words two;
             stands = begun.stands.for;
           })
           (record {
@@ -243,7 +254,7 @@ module _ (c : Compiled) (IsGood : Bytes → Type 0) (right : IsCompiled c IsGood
           let acted = acted_then c IsGood right u n temps ws s v xs h Nowhere (free + 7) paid.work (integer 0) paid z
           h.keys
           v2 y begun given leaves h.steady.keys in
-          let all = reached_then m f u xs pc at_call (at_call + 1) v v2 y (most + 10 + 8) bound two
+          let all = reached_then m f u xs pc at_call (at_call + 1) v v2 y (most + 10 + 10) bound two
           (record { steps = served.steps; comes = served.comes ∙ d.behind.at; few = d.behind.work }) in
           let few = all.few in
           let count = work_is in
@@ -252,7 +263,7 @@ module _ (c : Compiled) (IsGood : Bytes → Type 0) (right : IsCompiled c IsGood
           record {
             keys = d.keys_after;
             after = y;
-            reached = subst (λ r. Reached m f u pc v xs r y (most + 99 + 16 * size)) at
+            reached = subst (λ r. Reached m f u pc v xs r y (most + 101 + 16 * size)) at
                 (record { steps = all.steps; comes = all.comes; few = omega (arith, few, count) });
             acted = acted_worked c IsGood right u n temps ws s v xs h z d.keys_after y
                 (behind_put w size d_place q.word from).work acted;

@@ -2,7 +2,7 @@
 use Rattle.std.proofs.Common.{◌≡◌, inl, ℕ, suc, ◌+◌, ◌-◌, ◌*◌, ◌^◌, ◌<◌, ◌≤◌, Bool, true, false, List, [], ◌∷◌, ◌++◌}
 use Rattle.std.proofs.Common.{length, length-append, get_or, Option, Some, refl, sym, ap, ◌∙◌, subst, arith}
 use Rattle.std.specs.Prelude.{slice_get}
-use Rattle.std.proofs.lemmas.Bool.{lt-ltb}
+use Rattle.std.proofs.lemmas.Bool.{eq-eqb, lt-ltb}
 use Rattle.rv_isa.specs.declared.instruction.RegOp.TheVariants.{Add}
 use Rattle.rv_isa.specs.Results.{reg_result}
 use Rattle.words.specs.TwosComplement.{low_bits}
@@ -51,8 +51,8 @@ use Rattle.runtime_functions.proofs.CopyCalls.{copy_served}
 use Rattle.metadata_plan.specs.Expanded.{Leads}
 use Rattle.metadata_plan.specs.Registers.{most_temporaries}
 use Rattle.metadata_plan.proofs.Flat.{move_comes, operate_comes}
-use Rattle.metadata_relation.specs.Blocks.{move_value, runtime_number}
-use Rattle.metadata_relation.specs.Structures.{copy_code, copy_place}
+use Rattle.metadata_relation.specs.Blocks.{move_value, part_address, runtime_number, write_structure_code}
+use Rattle.metadata_relation.specs.Structures.{copy_code, copy_place, has_area, put_code}
 use Rattle.metadata_relation.specs.Holding.{IsHeldAt, IsHome}
 use Rattle.metadata_relation.specs.Registers.{first_free, home_register, temporary_register}
 use Rattle.metadata_relation.specs.Scopes.{context_at}
@@ -61,6 +61,7 @@ use Rattle.metadata_relation.specs.Steps.{IsCompiled, is_settled}
 use Rattle.metadata_relation.proofs.Accesses.{found, keyed_opens, live_direct}
 use Rattle.metadata_relation.proofs.Acting.{acts_alone, acts_giving, behind_action, HasActed, Reached, reached_by}
 use Rattle.metadata_relation.proofs.Acting.{reached_computed, reached_next, reached_then, reached_words}
+use Rattle.metadata_relation.proofs.AreaPlaces.{no_area}
 use Rattle.metadata_relation.proofs.Assigning.{assigned}
 use Rattle.metadata_relation.proofs.Finishing.{acted_as, acted_then, acted_worked, ends_with, move_few, nothing_done}
 use Rattle.metadata_relation.proofs.Finishing.{tagged_in, value_moved}
@@ -75,7 +76,7 @@ use Rattle.metadata_relation.proofs.StoredParts.{home_address, IsPart, no_part, 
 -- ---- in the source
 
 -- A structure is moved from one place that is there to another.
-copied : (s : State) (size line : ℕ) (p q : Value) (to : IsDirect s.objects p size) (from : IsDirect s.objects q size)
+pub copied : (s : State) (size line : ℕ) (p q : Value) (to : IsDirect s.objects p size) (from : IsDirect s.objects q size)
     → copy_structure size false p line q s
     ≡ Gives tt (with_moved s size (place_in s.objects to.object p.word) (place_in s.objects from.object q.word))
 copied s size line p q to from =
@@ -110,16 +111,16 @@ module _ (c : Compiled) (IsGood : Bytes → Type 0) (right : IsCompiled c IsGood
   -- ---- the call
 
   -- the state of the source behind the move, and what the instruction makes of it
-  abbrev moved : (paid size : ℕ) → (to from : Place) → State
+  abbrev pub moved : (paid size : ℕ) → (to from : Place) → State
   moved w size d q = with_moved (spent w s) size d q
 
-  abbrev behind : (paid size : ℕ) → (to from : Place) → State
+  abbrev pub behind : (paid size : ℕ) → (to from : Place) → State
   behind w size d q = record (moved w size d q) {
     work = (moved w size d q).work + 3 * ((moved w size d q).work - (spent w s).work);
   }
 
   -- the structure was moved, and the run stands at a place of the block
-  record IsCopied (paid size : ℕ) (to from : Place) (place most : ℕ) : Type 0 where
+  pub record IsCopied (paid size : ℕ) (to from : Place) (place most : ℕ) : Type 0 where
     pub keys : Keys
     pub after : flat.State
     pub reached : Reached (map_of c) c.layout.program u (c.layout.address u n) v xs place after most
@@ -175,7 +176,7 @@ module _ (c : Compiled) (IsGood : Bytes → Type 0) (right : IsCompiled c IsGood
       abbrev at_call : ℕ
       at_call = place + 1 + length constants
 
-      copies : IsCopied w size (place_in s.objects to.object p.word) (place_in s.objects from.object q.word)
+      pub copies : IsCopied w size (place_in s.objects to.object p.word) (place_in s.objects from.object q.word)
           (place + 2 + length (c.layout.expansion.inline.operators.constant (first_free h.code + 2) size
           (first_free h.code + 3))) (most + 85 + 16 * size)
       copies =
@@ -247,126 +248,131 @@ module _ (c : Compiled) (IsGood : Bytes → Type 0) (right : IsCompiled c IsGood
   module _ (size : ℕ) (mode : Mode) (line : ℕ) (key : Option ℕ) (d a b next : ℕ) (settled : is_settled mode ≡ true)
       (small : size < 2 ^ 64)
       (at : slice_get h.code.code n ≡ Some (tac.Write (Structure size) mode line key d a b next))
-      (plain : c.layout.expansion.contents u n a ≡ false) (no_contents : c.layout.expansion.contents u n b ≡ false)
-    where
-      abbrev label : Instruction
-      label = tac.Write (Structure size) mode line key d a b next
+      (none : has_area c.layout.expansion.code h.code b ≡ false) where
+    abbrev label : Instruction
+    label = tac.Write (Structure size) mode line key d a b next
 
-      nd : IsNode c u n h.code (tac.Write (Structure size) mode line key d a b next)
-      nd = node c IsGood right u n temps ws s v xs h (tac.Write (Structure size) mode line key d a b next) at
+    nd : IsNode c u n h.code (tac.Write (Structure size) mode line key d a b next)
+    nd = node c IsGood right u n temps ws s v xs h (tac.Write (Structure size) mode line key d a b next) at
 
-      low : d < most_temporaries h.code.code
-      low = omega (arith, nd.temporaries_low)
+    low : d < most_temporaries h.code.code
+    low = omega (arith, nd.temporaries_low)
 
-      to_low : a < most_temporaries h.code.code
-      to_low = omega (arith, nd.temporaries_low)
+    to_low : a < most_temporaries h.code.code
+    to_low = omega (arith, nd.temporaries_low)
 
-      from_low : b < most_temporaries h.code.code
-      from_low = omega (arith, nd.temporaries_low)
+    from_low : b < most_temporaries h.code.code
+    from_low = omega (arith, nd.temporaries_low)
 
-      module _ (p q : Value)
-          (held : IsHeldAt (world c h.keys s v) (c.layout.expansion.entries u n a) p (temporary_register h.code a)
-          v.values)
-          (taken : IsHeldAt (world c h.keys s v) (c.layout.expansion.entries u n b) q (temporary_register h.code b)
-          v.values)
-        where
-          writes : (to : IsDirect s.objects p size) (from : IsDirect s.objects q size)
-              → Follows (Stands u next (with_temp temps d (rvalue p)) ws
-              (behind (cost (tac.Write (Structure size) mode line key d a b next)) size
-              (place_in s.objects to.object p.word) (place_in s.objects from.object q.word)))
-          writes to from =
-              let m = map_of c in
-              let o = c.layout.program in
-              let room = temporary_free h.code b from_low in
-              let room_to = temporary_free h.code a to_low in
-              let room_into = temporary_free h.code d low in
-              let copy = copy_code c.layout.expansion.inline.operators (runtime_number c.layout.expansion.code) (T b)
-              size free in
-              let constants = c.layout.expansion.inline.operators.constant (free + 2) size (free + 3) in
-              let rest = move_value (E next d) (T d) (T a) in
-              let has = nd.put.has in
-              let first = move_comes m o u pc v xs free (T a) has.0 in
-              let values = put v.values free (v.values (T a)) in
-              let same = λ (r : ℕ) (lt : r < free). put_other v.values free (v.values (T a)) r (λ e. omega arith) in
-              let k = copies (cost label) size p q to from held.sound taken.sound small (pc + 1) 2 (T b) values
-              (v.work + first.work)
-              (omega arith) (reached_by m o u xs pc (pc + 1) v (record v { values = values }) 2 first) same
-              (put_same v.values free (v.values (T a)) ∙ held.word) (same (T b) (omega arith) ∙ taken.word)
-              (has_front body (pc + 1) copy rest has.1) in
-              let y = k.after in
-              let z = behind (cost label) size (place_in s.objects to.object p.word)
-              (place_in s.objects from.object q.word) in
-              let still = held_on (views c) h.keys k.keys s.objects z.objects v.memory y.memory k.acted.goes (E n a) p
-              (T a)
-              v.values y.values (λ j lt. k.others (T a + j) (let few = few_in (E n a) in omega arith)) held in
-              let placed = value_moved (world c k.keys z y) (E next d) (E n a) p (T d) (T a) y.values still
-              (λ e. nd.closed.made n next d a label at (inl refl) refl refl e)
-              (temporary_apart d a (T d) (T a) (λ ne. temporaries_apart h.code d a ne)
-              (λ e. ap (λ z. temporary_register h.code z) e)) in
-              let counted = length-append constants
-              (Call (runtime_number c.layout.expansion.code copy_place) free (free + 3) ∷ []) in
-              let there : pc + 1 + length copy ≡ pc + 1 + 2 + length constants = omega (arith, counted) in
-              let long = length-append copy rest in
-              let end : pc + suc (length (copy ++ rest)) ≡ pc + 1 + 2 + length constants + length rest = omega
-              (arith, there, long) in
-              let e = ends_with c IsGood right u n temps ws s v xs h (pc + 1 + 2 + length constants) (2 + 85 + 16 * size)
-              5 next y
-              rest k.reached (move_few (E next d) (T d) (T a))
-              (subst (λ z. HasAt body z rest) there (has_back body (pc + 1) copy rest has.1))
-              (subst (λ z. Leads body z (c.layout.address u next)) end nd.put.leads) in
-              acts_giving c IsGood right u n temps ws s v xs h label nd d next p z k.keys
-              (record y { values = assigned rest y.values; work = e.0 }) (2 + 85 + 16 * size + 2 * 5 + 2) refl (inl refl)
-              low e.1
-              (acted_as c IsGood right u n temps ws s v xs h z k.keys y (assigned rest y.values) e.0 k.acted)
-              (λ r lt out. placed.others r out ∙ k.others r lt) placed.held (omega arith)
+    module _ (p q : Value)
+        (held : IsHeldAt (world c h.keys s v) (c.layout.expansion.entries u n a) p (temporary_register h.code a)
+        v.values)
+        (taken : IsHeldAt (world c h.keys s v) (c.layout.expansion.entries u n b) q (temporary_register h.code b)
+        v.values)
+      where
+        writes : (to : IsDirect s.objects p size) (from : IsDirect s.objects q size)
+            → Follows (Stands u next (with_temp temps d (rvalue p)) ws
+            (behind (cost (tac.Write (Structure size) mode line key d a b next)) size
+            (place_in s.objects to.object p.word) (place_in s.objects from.object q.word)))
+        writes to from =
+            let m = map_of c in
+            let o = c.layout.program in
+            let room = temporary_free h.code b from_low in
+            let room_to = temporary_free h.code a to_low in
+            let room_into = temporary_free h.code d low in
+            let copy = copy_code c.layout.expansion.inline.operators (runtime_number c.layout.expansion.code) (T b)
+            size free in
+            let constants = c.layout.expansion.inline.operators.constant (free + 2) size (free + 3) in
+            let rest = move_value (E next d) (T d) (T a) in
+            let has = subst (λ q. HasAt body pc (write_structure_code c.layout.expansion.inline.operators
+            c.layout.expansion.code q (E next d) size (T d) (T a) (T b) free)) none nd.put.has in
+            let on = subst (λ q. Leads body (pc + length (write_structure_code c.layout.expansion.inline.operators
+            c.layout.expansion.code q (E next d) size (T d) (T a) (T b) free)) (c.layout.address u next)) none
+            nd.put.leads in
+            let first = move_comes m o u pc v xs free (T a) has.0 in
+            let values = put v.values free (v.values (T a)) in
+            let same = λ (r : ℕ) (lt : r < free). put_other v.values free (v.values (T a)) r (λ e. omega arith) in
+            let k = copies (cost label) size p q to from held.sound taken.sound small (pc + 1) 2 (T b) values
+            (v.work + first.work)
+            (omega arith) (reached_by m o u xs pc (pc + 1) v (record v { values = values }) 2 first) same
+            (put_same v.values free (v.values (T a)) ∙ held.word) (same (T b) (omega arith) ∙ taken.word)
+            (has_front body (pc + 1) copy rest has.1) in
+            let y = k.after in
+            let z = behind (cost label) size (place_in s.objects to.object p.word)
+            (place_in s.objects from.object q.word) in
+            let still = held_on (views c) h.keys k.keys s.objects z.objects v.memory y.memory k.acted.goes (E n a) p
+            (T a)
+            v.values y.values (λ j lt. k.others (T a + j) (let few = few_in (E n a) in omega arith)) held in
+            let placed = value_moved (world c k.keys z y) (E next d) (E n a) p (T d) (T a) y.values still
+            (λ e. nd.closed.made n next d a label at (inl refl) refl refl e)
+            (temporary_apart d a (T d) (T a) (λ ne. temporaries_apart h.code d a ne)
+            (λ e. ap (λ z. temporary_register h.code z) e)) in
+            let counted = length-append constants
+            (Call (runtime_number c.layout.expansion.code copy_place) free (free + 3) ∷ []) in
+            let there : pc + 1 + length copy ≡ pc + 1 + 2 + length constants = omega (arith, counted) in
+            let long = length-append copy rest in
+            let end : pc + suc (length (copy ++ rest)) ≡ pc + 1 + 2 + length constants + length rest = omega
+            (arith, there, long) in
+            let e = ends_with c IsGood right u n temps ws s v xs h (pc + 1 + 2 + length constants) (2 + 85 + 16 * size)
+            5 next y
+            rest k.reached (move_few (E next d) (T d) (T a))
+            (subst (λ z. HasAt body z rest) there (has_back body (pc + 1) copy rest has.1))
+            (subst (λ z. Leads body z (c.layout.address u next)) end on) in
+            acts_giving c IsGood right u n temps ws s v xs h label nd d next p z k.keys
+            (record y { values = assigned rest y.values; work = e.0 }) (2 + 85 + 16 * size + 2 * 5 + 2) refl (inl refl)
+            low e.1
+            (acted_as c IsGood right u n temps ws s v xs h z k.keys y (assigned rest y.values) e.0 k.acted)
+            (λ r lt out. placed.others r out ∙ k.others r lt) placed.held (omega arith)
 
-      -- the step
+    -- the step
 
-      abbrev write_paid : State
-      write_paid = spent (cost (tac.Write (Structure size) mode line key d a b next)) s
+    abbrev write_paid : State
+    write_paid = spent (cost (tac.Write (Structure size) mode line key d a b next)) s
 
-      abbrev Behind : Rvalue → Rvalue → Stage
-      Behind q w = came (heavier (write_rvalue (Structure size) (is_through mode) q.value line w) write_paid)
-          (given_in u next temps d ws)
+    abbrev Behind : Rvalue → Rvalue → Stage
+    Behind q w = came (heavier (write_rvalue (Structure size) (is_through mode) q.value line w) write_paid)
+        (given_in u next temps d ws)
 
-      abbrev Effect : Rvalue → Rvalue → Stage
-      Effect q w = keyed (keys_of (code_in c.layout.expansion.code u)) key write_paid q.value
-          (admitted mode size q s.objects (moved_from (Structure size) w s.objects (Behind q w)))
+    abbrev Effect : Rvalue → Rvalue → Stage
+    Effect q w = keyed (keys_of (code_in c.layout.expansion.code u)) key write_paid q.value
+        (admitted mode size q s.objects (moved_from (Structure size) w s.objects (Behind q w)))
 
-      place_written : (p q : Value)
-          → IsHeldAt (world c h.keys s v) (c.layout.expansion.entries u n a) p (temporary_register h.code a) v.values
-          → IsHeldAt (world c h.keys s v) (c.layout.expansion.entries u n b) q (temporary_register h.code b) v.values
-          → (Effect (rvalue p) (rvalue q) ≡ Stuck → ⊥) → Follows (Effect (rvalue p) (rvalue q))
-      place_written p q held taken fine =
-          let keys = keys_of (code_in c.layout.expansion.code u) in
-          let moving = moved_from (Structure size) (rvalue q) s.objects (Behind (rvalue p) (rvalue q)) in
-          let opened = keyed_opens keys key write_paid p (admitted mode size (rvalue p) s.objects moving) fine in
-          let f = found mode settled (views c).functions size p s.objects moving held.sound
-          (λ stuck. fine (opened ∙ stuck)) in
-          let t = only_true (is_live_at size q s.objects) (Behind (rvalue p) (rvalue q))
-          (λ stuck. fine (opened ∙ f.opens ∙ stuck)) in
-          let from = live_direct s.objects q size q.tag refl t.0 in
-          let write_is = ap (λ o. fourfold write_paid.work
-          (on (on o (λ d. (λ z. on (located false size q line z) (λ r. move_bytes size d r)))) (λ z. give p)))
-          (f.same line write_paid refl)
-          ∙ ap (λ o. fourfold write_paid.work (on o (λ z. give p))) (copied write_paid size line p q f.direct from) in
-          subst Follows (sym (opened ∙ f.opens ∙ t.1 ∙ ap (λ o. came o (given_in u next temps d ws)) write_is))
-          (writes p q held taken f.direct from)
+    place_written : (p q : Value)
+        → IsHeldAt (world c h.keys s v) (c.layout.expansion.entries u n a) p (temporary_register h.code a) v.values
+        → IsHeldAt (world c h.keys s v) (c.layout.expansion.entries u n b) q (temporary_register h.code b) v.values
+        → (Effect (rvalue p) (rvalue q) ≡ Stuck → ⊥) → Follows (Effect (rvalue p) (rvalue q))
+    place_written p q held taken fine =
+        let keys = keys_of (code_in c.layout.expansion.code u) in
+        let moving = moved_from (Structure size) (rvalue q) s.objects (Behind (rvalue p) (rvalue q)) in
+        let opened = keyed_opens keys key write_paid p (admitted mode size (rvalue p) s.objects moving) fine in
+        let f = found mode settled (views c).functions size p s.objects moving held.sound
+        (λ stuck. fine (opened ∙ stuck)) in
+        let t = only_true (is_live_at size q s.objects) (Behind (rvalue p) (rvalue q))
+        (λ stuck. fine (opened ∙ f.opens ∙ stuck)) in
+        let from = live_direct s.objects q size q.tag refl t.0 in
+        let write_is = ap (λ o. fourfold write_paid.work
+        (on (on o (λ d. (λ z. on (located false size q line z) (λ r. move_bytes size d r)))) (λ z. give p)))
+        (f.same line write_paid refl)
+        ∙ ap (λ o. fourfold write_paid.work (on o (λ z. give p))) (copied write_paid size line p q f.direct from) in
+        subst Follows (sym (opened ∙ f.opens ∙ t.1 ∙ ap (λ o. came o (given_in u next temps d ws)) write_is))
+        (writes p q held taken f.direct from)
 
-      pub write_structure : (effect c.setting (expansion_of c).code label u temps ws write_paid ≡ Stuck → ⊥)
-          → Follows (effect c.setting (expansion_of c).code label u temps ws write_paid)
-      write_structure fine =
-          let to = plain_operand c IsGood right u n temps ws s v xs h words.0 a to_low plain in
-          let from = plain_operand c IsGood right u n temps ws s v xs h words.0 b from_low no_contents in
-          subst (λ q. (Effect q (temps b) ≡ Stuck → ⊥) → Follows (Effect q (temps b))) (sym to.0)
-          (subst (λ w. (Effect (rvalue (temps a).value) w ≡ Stuck → ⊥) → Follows (Effect (rvalue (temps a).value) w))
-          (sym from.0) (place_written (temps a).value (temps b).value to.1 from.1)) fine
+    pub write_structure : (effect c.setting (expansion_of c).code label u temps ws write_paid ≡ Stuck → ⊥)
+        → Follows (effect c.setting (expansion_of c).code label u temps ws write_paid)
+    write_structure fine =
+        let to = plain_operand c IsGood right u n temps ws s v xs h words.0 a to_low
+        (nd.kept.words n a label nd.at (eq-eqb a a refl)) in
+        let from = plain_operand c IsGood right u n temps ws s v xs h words.0 b from_low
+        (nd.kept.areas n b (no_area c.layout.expansion.code h.code b none)) in
+        subst (λ q. (Effect q (temps b) ≡ Stuck → ⊥) → Follows (Effect q (temps b))) (sym to.0)
+        (subst (λ w. (Effect (rvalue (temps a).value) w ≡ Stuck → ⊥) → Follows (Effect (rvalue (temps a).value) w))
+        (sym from.0) (place_written (temps a).value (temps b).value to.1 from.1)) fine
 
   -- ---- parts of initializers
 
   module _ (size line x offset a next : ℕ) (short_offset : offset < 2 ^ 64) (small : size < 2 ^ 64)
       (at : slice_get h.code.code n ≡ Some (tac.StorePart (Structure size) line x offset a next))
-      (no_contents : c.layout.expansion.contents u n a ≡ false) where
+      (none : has_area c.layout.expansion.code h.code a ≡ false) where
     abbrev part_label : Instruction
     part_label = tac.StorePart (Structure size) line x offset a next
 
@@ -453,8 +459,14 @@ module _ (c : Compiled) (IsGood : Bytes → Type 0) (right : IsCompiled c IsGood
           let copy = copy_code c.layout.expansion.inline.operators (runtime_number c.layout.expansion.code) (T a) size
           free in
           let list = part_code c.layout.expansion.inline.operators H offset free short in
-          stores (subst (λ z. HasAt body pc (z ++ copy)) list part_node.put.has)
-          (subst (λ z. Leads body (pc + length (z ++ copy)) (c.layout.address u next)) list part_node.put.leads)
+          let address = part_address c.layout.expansion.inline.operators h.code x offset free in
+          let has = subst (λ q. HasAt body pc (address ++ put_code c.layout.expansion.inline.operators
+          (runtime_number c.layout.expansion.code) q (T a) size free)) none part_node.put.has in
+          let on = subst (λ q. Leads body (pc + length (address ++ put_code c.layout.expansion.inline.operators
+          (runtime_number c.layout.expansion.code) q (T a) size free)) (c.layout.address u next)) none
+          part_node.put.leads in
+          stores (subst (λ z. HasAt body pc (z ++ copy)) list has)
+          (subst (λ z. Leads body (pc + length (z ++ copy)) (c.layout.address u next)) list on)
 
     -- the step
 
@@ -494,7 +506,8 @@ module _ (c : Compiled) (IsGood : Bytes → Type 0) (right : IsCompiled c IsGood
     pub store_structure : (effect c.setting (expansion_of c).code part_label u temps ws part_paid ≡ Stuck → ⊥)
         → Follows (effect c.setting (expansion_of c).code part_label u temps ws part_paid)
     store_structure fine =
-        let from = plain_operand c IsGood right u n temps ws s v xs h words.0 a part_low no_contents in
+        let from = plain_operand c IsGood right u n temps ws s v xs h words.0 a part_low
+        (part_node.kept.areas n a (no_area c.layout.expansion.code h.code a none)) in
         subst (λ w. (PartEffect (get_or s.frame x NoObject) w ≡ Stuck → ⊥)
         → Follows (PartEffect (get_or s.frame x NoObject) w))
         (sym from.0) (by_home (temps a).value from.1 (get_or s.frame x NoObject) refl) fine

@@ -1,8 +1,8 @@
 -- Flat code follows the instructions that are covered, from stage to stage.
-use Rattle.std.proofs.Common.{◌≡◌, ℕ, ◌^◌, ◌<◌, ◌&&◌, ◌||◌, true, false, List, Option, Some, None, refl, sym, ap, ◌∙◌}
-use Rattle.std.proofs.Common.{subst}
-use Rattle.std.specs.Prelude.{slice_get, not, nat_le}
-use Rattle.std.proofs.lemmas.Bool.{ltb-true, leb-true, and_parts, not-true}
+use Rattle.std.proofs.Common.{◌≡◌, ℕ, ◌^◌, ◌<◌, ◌&&◌, ◌||◌, Bool, true, false, List, Option, Some, None, refl, sym, ap}
+use Rattle.std.proofs.Common.{◌∙◌, subst}
+use Rattle.std.specs.Prelude.{slice_get, nat_le, ◌==◌}
+use Rattle.std.proofs.lemmas.Bool.{and_parts, eq-eqb, leb-true, ltb-true, or_right}
 use Rattle.std.proofs.lemmas.Option.{same_Some}
 use Rattle.obj_memory.specs.declared.value.Scalar.{Scalar}
 use Rattle.obj_memory.specs.declared.value.Scalar.TheVariants.{Integer, Pointer}
@@ -21,11 +21,13 @@ use Rattle.flat_code.specs.State as flat
 use Rattle.flat_code.specs.Words.{HasWords}
 use Rattle.metadata_plan.specs.Registers.{all_variables}
 use Rattle.metadata_relation.specs.Blocks.{is_short}
+use Rattle.metadata_relation.specs.Contents.{is_right, takes_word}
+use Rattle.metadata_relation.specs.Structures.{has_area}
 use Rattle.metadata_relation.specs.Stages.{Compiled, map_of, expansion_of, IsAt, MatchesBy, Matches}
 use Rattle.metadata_relation.specs.Steps.{IsCompiled, covers, admits, is_few, is_part, is_scalar_type, is_settled}
 use Rattle.metadata_relation.specs.Steps.{is_update_by_word, IsCovered, ComesToMatch}
 use Rattle.metadata_plan.proofs.Flat.{words_kept}
-use Rattle.metadata_relation.proofs.Standing.{Result}
+use Rattle.metadata_relation.proofs.Standing.{node, Result}
 use Rattle.metadata_relation.proofs.Simple.{constant, unary, binary, skip_step, branch, turn, case}
 use Rattle.metadata_relation.proofs.Moving.{get_plain, zero_of_scalar, zero_of_void, convert_void, convert_integer}
 use Rattle.metadata_relation.proofs.Moving.{convert_array, convert_pointer, convert_structure, zero_of_array}
@@ -38,14 +40,19 @@ use Rattle.metadata_relation.proofs.CopiedStructures.{store_structure, write_str
 use Rattle.metadata_relation.proofs.StoredParts.{store_part}
 use Rattle.metadata_relation.proofs.StoredTexts.{store_text}
 use Rattle.metadata_relation.proofs.Reading.{read, read_at}
+use Rattle.metadata_relation.proofs.ReadStructures.{read_structure}
+use Rattle.metadata_relation.proofs.TakenStructures.{take_structure}
+use Rattle.metadata_relation.proofs.ZeroStructures.{zero_structure}
+use Rattle.metadata_relation.proofs.AssignedStructures.{store_contents, write_contents}
 use Rattle.metadata_relation.proofs.UpdateSteps.{update_place}
 use Rattle.metadata_relation.proofs.Writing.{write}
 use Rattle.metadata_relation.proofs.Zeroing.{zero_step}
 use Rattle.tac_ir.specs.declared.instruction.Mode.{Mode}
-use Rattle.tac_ir.specs.Fitting.{is_scalar_of, is_update_of, is_word}
+use Rattle.tac_ir.specs.Fitting.{is_in_place, is_scalar_of, is_update_of, is_word}
 use Rattle.metadata_relation.proofs.Named.{function_pointer_step, static_pointer_step}
 use Rattle.metadata_relation.proofs.Differences.{difference_step}
-use Rattle.metadata_relation.proofs.Members.{narrow_step, member_step}
+use Rattle.metadata_relation.proofs.MemberParts.{member_step}
+use Rattle.metadata_relation.proofs.Members.{narrow_step}
 use Rattle.metadata_relation.proofs.Updating.{update_plain_step}
 use Rattle.metadata_relation.proofs.LibraryCalls.{routine_step}
 use Rattle.metadata_relation.proofs.Calls.{call_step}
@@ -78,7 +85,11 @@ module _ (c : Compiled) (IsGood : Bytes → Type 0) (right : IsCompiled c IsGood
   zero : (kind : Kind) (d m : ℕ) → Does (tac.ZeroOf kind d m)
   zero Void d m at e f = zero_of_void c IsGood right u n temps ws s v xs h words.0 d m at
   zero (OfScalar k) d m at e f = zero_of_scalar c IsGood right u n temps ws s v xs h words.0 k d m at
-  zero (Structure size) d m at e f = cc
+  zero (Structure size) d m at e f =
+      let i = tac.ZeroOf (Structure size) d m in
+      let nd = node c IsGood right u n temps ws s v xs h i at in
+      zero_structure c IsGood right right.areas u n temps ws s v xs h words size d m (leb-true 1 size e) at
+      (admitted i at) nd.put.has nd.put.leads
   zero (Array size) d m at e f = zero_of_array c IsGood right u n temps ws s v xs h words.0 size d m at
 
   converts : (kind : Kind) (d a m : ℕ) → Does (tac.Convert kind d a m)
@@ -94,43 +105,77 @@ module _ (c : Compiled) (IsGood : Bytes → Type 0) (right : IsCompiled c IsGood
       let no : false ≡ true = ap is_scalar_type (sym typed) ∙ e in cc
   reads d x m (Some k) typed at e f = get_plain c IsGood right u n temps ws s v xs h words.0 d x m k at typed
 
-  plain : (a : ℕ) → not (c.layout.expansion.contents u n a) ≡ true → c.layout.expansion.contents u n a ≡ false
-  plain a e = not-true (c.layout.expansion.contents u n a) e
+  takes : (kind : Kind) (line d a m : ℕ) → Does (tac.Take kind line d a m)
+  takes (Structure size) line d a m at e f =
+      let i = tac.Take (Structure size) line d a m in
+      let nd = node c IsGood right u n temps ws s v xs h i at in
+      take_structure c IsGood right right.areas u n temps ws s v xs h words size line d a m (leb-true 1 size e) at
+      (admitted i at) nd.put.has nd.put.leads f (fine i at)
+  takes Void line d a m at e f = cc
+  takes (OfScalar k) line d a m at e f = cc
+  takes (Array size) line d a m at e f = cc
+
+  -- whose word is taken, has no contents
+  plain : (i : Instruction) (a : ℕ) → slice_get h.code.code n ≡ Some i → takes_word i a ≡ true
+      → c.layout.expansion.contents u n a ≡ false
+  plain i a at e = (node c IsGood right u n temps ws s v xs h i at).kept.words n a i at e
 
   read_by : (kind : Kind) (mode : Mode) (line : ℕ) (key : Option ℕ) (d a m : ℕ)
       → Does (tac.Read kind mode line key d a m)
   read_by (OfScalar k) mode line key d a m at e f =
       let i = tac.Read (OfScalar k) mode line key d a m in
-      read c IsGood right u n temps ws s v xs h words.0 k mode line key d a m e at (plain a (admitted i at))
+      read c IsGood right u n temps ws s v xs h words.0 k mode line key d a m e at (plain i a at (eq-eqb a a refl))
       (fine i at)
   read_by Void mode line key d a m at e f =
       let i = tac.Read Void mode line key d a m in
       read_at c IsGood right u n temps ws s v xs h words.0 Void refl mode line key d a m e at
-      (plain a (admitted i at)) (fine i at)
+      (plain i a at (eq-eqb a a refl)) (fine i at)
   read_by (Structure size) mode line key d a m at e f =
       let i = tac.Read (Structure size) mode line key d a m in
-      read_at c IsGood right u n temps ws s v xs h words.0 (Structure size) refl mode line key d a m e at
-      (plain a (admitted i at)) (fine i at)
+      read_structure c IsGood right u n temps ws s v xs h words size mode line key d a m e at
+      (and_parts (is_in_place (temps a).contents d a) _ f).0 (fine i at)
   read_by (Array size) mode line key d a m at e f =
       let i = tac.Read (Array size) mode line key d a m in
       read_at c IsGood right u n temps ws s v xs h words.0 (Array size) refl mode line key d a m e at
-      (plain a (admitted i at)) (fine i at)
+      (plain i a at (eq-eqb a a refl)) (fine i at)
+
+  -- a structure is assigned from its place alone where no contents can be there
+  structure_by : (area : Bool) (size : ℕ) (mode : Mode) (line : ℕ) (key : Option ℕ) (d a b m : ℕ)
+      → has_area c.layout.expansion.code h.code b ≡ area → Does (tac.Write (Structure size) mode line key d a b m)
+  structure_by false size mode line key d a b m none at e f =
+      let i = tac.Write (Structure size) mode line key d a b m in
+      let p = and_parts (is_settled mode) (is_word size) e in
+      write_structure c IsGood right u n temps ws s v xs h words size mode line key d a b m p.0
+      (ltb-true size (2 ^ 64) p.1) at none (fine i at)
+  structure_by true size mode line key d a b m area at e f =
+      let i = tac.Write (Structure size) mode line key d a b m in
+      let p = and_parts (is_settled mode) (is_word size) e in
+      write_contents c IsGood right u n temps ws s v xs h words size mode line key d a b m p.0
+      (ltb-true size (2 ^ 64) p.1) at area (fine i at)
 
   write_by : (kind : Kind) (mode : Mode) (line : ℕ) (key : Option ℕ) (d a b m : ℕ)
       → Does (tac.Write kind mode line key d a b m)
   write_by (OfScalar k) mode line key d a b m at e f =
       let i = tac.Write (OfScalar k) mode line key d a b m in
-      write c IsGood right u n temps ws s v xs h words.0 k mode line key d a b m e at (plain a (admitted i at))
-      (and_parts (is_scalar_of k (temps b)) _ f).0 (fine i at)
+      write c IsGood right u n temps ws s v xs h words.0 k mode line key d a b m e at
+      (plain i a at (eq-eqb a a refl)) (and_parts (is_scalar_of k (temps b)) _ f).0 (fine i at)
   write_by Void mode line key d a b m at e f = cc
   write_by (Structure size) mode line key d a b m at e f =
-      let i = tac.Write (Structure size) mode line key d a b m in
-      let p = and_parts (is_settled mode) (is_word size) e in
-      let q = and_parts (not (c.layout.expansion.contents u n a)) (not (c.layout.expansion.contents u n b))
-      (admitted i at) in
-      write_structure c IsGood right u n temps ws s v xs h words size mode line key d a b m p.0
-      (ltb-true size (2 ^ 64) p.1) at (plain a q.0) (plain b q.1) (fine i at)
+      structure_by (has_area c.layout.expansion.code h.code b) size mode line key d a b m refl at e f
   write_by (Array size) mode line key d a b m at e f = cc
+
+  structure_part_by : (area : Bool) (size line x offset a m : ℕ)
+      → has_area c.layout.expansion.code h.code a ≡ area → Does (tac.StorePart (Structure size) line x offset a m)
+  structure_part_by false size line x offset a m none at e f =
+      let i = tac.StorePart (Structure size) line x offset a m in
+      let p = and_parts (is_word offset) (is_word size) e in
+      store_structure c IsGood right u n temps ws s v xs h words size line x offset a m (ltb-true offset (2 ^ 64) p.0)
+      (ltb-true size (2 ^ 64) p.1) at none (fine i at)
+  structure_part_by true size line x offset a m area at e f =
+      let i = tac.StorePart (Structure size) line x offset a m in
+      let p = and_parts (is_word offset) (is_word size) e in
+      store_contents c IsGood right u n temps ws s v xs h words size line x offset a m (ltb-true offset (2 ^ 64) p.0)
+      (ltb-true size (2 ^ 64) p.1) at area (fine i at)
 
   part_by : (kind : Kind) (line x offset a m : ℕ) → Does (tac.StorePart kind line x offset a m)
   part_by (OfScalar k) line x offset a m at e f =
@@ -138,10 +183,7 @@ module _ (c : Compiled) (IsGood : Bytes → Type 0) (right : IsCompiled c IsGood
       store_part c IsGood right u n temps ws s v xs h words k line x offset a m (ltb-true offset (2 ^ 64) e) at f (fine i at)
   part_by Void line x offset a m at e f = cc
   part_by (Structure size) line x offset a m at e f =
-      let i = tac.StorePart (Structure size) line x offset a m in
-      let p = and_parts (is_word offset) (is_word size) e in
-      store_structure c IsGood right u n temps ws s v xs h words size line x offset a m (ltb-true offset (2 ^ 64) p.0)
-      (ltb-true size (2 ^ 64) p.1) at (plain a (admitted i at)) (fine i at)
+      structure_part_by (has_area c.layout.expansion.code h.code a) size line x offset a m refl at e f
   part_by (Array size) line x offset a m at e f = cc
 
   instruction : (i : Instruction) → Does i
@@ -158,13 +200,14 @@ module _ (c : Compiled) (IsGood : Bytes → Type 0) (right : IsCompiled c IsGood
       binary c IsGood right u n temps ws s v xs h words.0 op ty line d a b m at
   instruction (tac.Offset form size d a b m) at e f =
       offset c IsGood right u n temps ws s v xs h words.0 form size d a b m (ltb-true size (2 ^ 64) e) at
+  instruction (tac.Take kind line d a m) at e f = takes kind line d a m at e f
   instruction (tac.Read kind mode line key d a m) at e f = read_by kind mode line key d a m at e f
   instruction (tac.Write kind mode line key d a b m) at e f = write_by kind mode line key d a b m at e f
   instruction (tac.Update w k fixity mode line end_line key d a r m) at e f =
       let i = tac.Update w k fixity mode line end_line key d a r m in
       let p = and_parts (is_settled mode) (is_update_by_word w) e in
       update_place c IsGood right u n temps ws s v xs h words w k fixity mode line end_line key d a r m p.0 at
-      (plain a (admitted i at)) (and_parts (is_update_of w k) _ f).0 p.1 (fine i at)
+      (plain i a at (or_right (is_right r a) (a == a) (eq-eqb a a refl))) (and_parts (is_update_of w k) _ f).0 p.1 (fine i at)
   instruction (tac.Judge test size line key a m) at e f =
       let sized = and_parts (nat_le 1 size) (is_word size) e in
       judge c IsGood right u n temps ws s v xs h words test size line key a m at (ltb-true size (2 ^ 64) sized.1)
@@ -196,8 +239,7 @@ module _ (c : Compiled) (IsGood : Bytes → Type 0) (right : IsCompiled c IsGood
       narrow_step c IsGood right u n temps ws s v xs h words offset size d a m p.0 p.1 p.2 at
   instruction (tac.Member offset size d a m) at e f =
       let p = part_is offset size e in
-      member_step c IsGood right u n temps ws s v xs h words offset size d a m p.0 p.1 p.2
-      (not-true (c.layout.expansion.contents u n a) (admitted (tac.Member offset size d a m) at)) at
+      member_step c IsGood right u n temps ws s v xs h words offset size d a m p.0 p.1 p.2 at f
   instruction (tac.Library r line d count m) at e f =
       routine_step c IsGood right u n temps ws s v xs h words r line d count m at f
   instruction (tac.Print text line d count m) at e f =

@@ -31,7 +31,6 @@ use Rattle.flat_code.specs.Routines.Objects.StandsFor.{Views, Keys, Holding, Spe
 use Rattle.flat_code.proofs.Routines.Words.{same_metadata}
 use Rattle.flat_actions.specs.Actions.{KeepsHeld}
 use Rattle.flat_actions.proofs.Standing.{keeps_same}
-use Rattle.lib_wrappers.specs.AreaRoutines.Areas.{HoldsPart}
 use Rattle.lib_wrappers.proofs.AreaRoutines.Areas.{area_kept, area_same}
 use Rattle.runtime_functions.specs.Library.{held_from}
 use Rattle.metadata_plan.specs.Registers.{all_variables, most_temporaries}
@@ -39,7 +38,7 @@ use Rattle.metadata_relation.specs.Registers.{entry_from, variable_register, var
 use Rattle.metadata_relation.specs.Registers.{temporary_register, moved_register, first_free}
 use Rattle.metadata_relation.specs.Holding.{World, GoesOn, world_of, IsHeldAt, area_of, IsContentsAt, IsRvalueAt}
 use Rattle.metadata_relation.specs.Holding.{IsTemporary}
-use Rattle.metadata_relation.specs.Holding.{is_pointer_type, IsPlain, IsHome, HasHomes, Activation, Holds}
+use Rattle.metadata_relation.specs.Holding.{is_pointer_type, IsPartEntry, IsPlain, IsHome, HasHomes, Activation, Holds}
 use Rattle.metadata_relation.proofs.Registers.{count_of, count_in, few_in, some_in, variable_low, variables_apart}
 use Rattle.metadata_relation.proofs.Registers.{home_low, temporaries_apart}
 
@@ -130,12 +129,11 @@ module _ (g : Views) (k k' : Keys) (old new : Objects) (m m' : Bytes) (on : Goes
   }
     where
       by : (b : Bool) → b ≡ true → Stay r (count_of b) values after
-          → IsContentsAt (world_of g k old m) b v c greatest a r values → HoldsPart (held_from r) c.size v.word a after
+          → IsContentsAt (world_of g k old m) b v c greatest a r values → IsPartEntry (held_from r).tag c.size a after
       by false e same h = cc
       by true e same h =
           let p = h.entry refl in
           record {
-            part = first_stays r 5 values after (omega arith) same ∙ p.part;
             base = same 1 (omega arith) ∙ p.base;
             bound = same 2 (omega arith) ∙ p.bound;
             no_lock = same 4 (omega arith) ∙ p.no_lock;

@@ -104,7 +104,8 @@ enters e = record { parameters = refl; of_runtime = refl; room = omega arith; bo
 pub program_expands : (e : Expansion) (homes : CodeFunction → List ℕ) (runtime : List FlatFunction) (entry : View)
     (IsGood : Bytes → Type 0) → AreOfRuntime e.map entry IsGood runtime_list runtime
     → HaveTypeKeys e.code.functions e.types → AreAllClosed e.code e.entries
-    → ((u : ℕ) (c : CodeFunction) → slice_get e.code.functions u ≡ Some c → AreKept c (e.contents u))
+    → ((u : ℕ) (c : CodeFunction) → slice_get e.code.functions u ≡ Some c
+    → AreKept e.code c (e.contents u))
     → IsExpanded (layout_of e homes runtime) entry IsGood
 program_expands e homes runtime entry IsGood are types closed kept =
     let cs = e.code.functions in

@@ -5,6 +5,7 @@ pub mod AreaPlaces
 pub mod AreaSteps
 pub mod AreasBeside
 pub mod AssignedContents
+pub mod AssignedStructures
 pub mod Assigning
 pub mod Begins
 pub mod Behind
@@ -41,6 +42,7 @@ pub mod LibraryArguments
 pub mod LibraryCalls
 pub mod LibraryRuns
 pub mod MadeObjects
+pub mod MemberParts
 pub mod Members
 pub mod Moving
 pub mod Named
@@ -55,6 +57,7 @@ pub mod PrintParts
 pub mod PrintScans
 pub mod Printing
 pub mod Ranges
+pub mod ReadStructures
 pub mod Reading
 pub mod Registers
 pub mod Returns

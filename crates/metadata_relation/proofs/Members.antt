@@ -137,7 +137,7 @@ module _ (o : OperatorCode) (ops : AreOperators o) (m : MapSizes) (p : FlatProgr
       record { steps = all.steps; work = all.work; few = all.few; comes = all.comes }
 
 -- the operand stays where its register does
-operand_kept : (n r : ℕ) (a b : flat.Values) → b r ≡ a r
+pub operand_kept : (n r : ℕ) (a b : flat.Values) → b r ≡ a r
     → right_value (number_operand n r) b ≡ right_value (number_operand n r) a
 operand_kept n r a b same = by (is_short n)
   where
@@ -147,7 +147,7 @@ operand_kept n r a b same = by (is_short n)
     by false = same
 
 -- operands in the first two scratch registers are others than a pointer's
-can_narrow : (r s offset size : ℕ) → r + 5 ≤ s
+pub can_narrow : (r s offset size : ℕ) → r + 5 ≤ s
     → CanNarrow (held_from r) (number_operand offset s) (number_operand size (s + 1)) (s + 2)
 can_narrow r s offset size low = record {
   below = (omega arith, (omega arith, (omega arith, (omega arith, (omega arith, tt)))));
@@ -169,7 +169,7 @@ can_narrow r s offset size low = record {
         by true = tt
         by false = (below, (λ e. omega (arith, above), (λ e. omega (arith, above), (λ e. omega (arith, above), tt))))
 
-narrowed_word : (offset size : ℕ) (v : Value) → (narrowed offset size v).word ≡ (v.word + offset) % 2 ^ 64
+pub narrowed_word : (offset size : ℕ) (v : Value) → (narrowed offset size v).word ≡ (v.word + offset) % 2 ^ 64
 unfolding narrowed
 narrowed_word offset size v = refl
 
@@ -355,7 +355,7 @@ module _ (c : Compiled) (IsGood : Bytes → Type 0) (right : IsCompiled c IsGood
           away y j (inl below) few e = absurd (omega arith)
           away y j (inr above) few e = absurd (omega arith)
 
-      gives_narrowed : HasAt body pc (narrow_code c.layout.expansion.inline (c.layout.expansion.entries u next d) offset
+      pub gives_narrowed : HasAt body pc (narrow_code c.layout.expansion.inline (c.layout.expansion.entries u next d) offset
           size (T d) (T a) free)
           → Leads body (pc + length (narrow_code c.layout.expansion.inline (c.layout.expansion.entries u next d) offset
           size (T d) (T a) free)) (c.layout.address u next)
@@ -408,22 +408,3 @@ module _ (c : Compiled) (IsGood : Bytes → Type 0) (right : IsCompiled c IsGood
       (held_of (world c h.keys s v) (c.layout.expansion.entries u n a) (temps a) _ _ (T a) v.values
       (record { by = t.by; none = λ e. t.none none }))
       offset_fits size_fits (few_numbers offset size few) k.put.has k.put.leads
-
-  -- of a value without contents a member is a place in the same object
-  pub member_step : (offset size d a next : ℕ) → offset < 2 ^ 64 → size < 2 ^ 64
-      → ((is_short offset || is_short size) || (is_few offset && is_few size)) ≡ true
-      → c.layout.expansion.contents u n a ≡ false
-      → slice_get h.code.code n ≡ Some (tac.Member offset size d a next)
-      → Gives (effect c.setting (expansion_of c).code (tac.Member offset size d a next) u temps ws (spent 2 s))
-  member_step offset size d a next offset_fits size_fits few none at =
-      let i = tac.Member offset size d a next in
-      let k = node c IsGood right u n temps ws s v xs h i at in
-      let low : d < most_temporaries h.code.code = omega (arith, k.temporaries_low) in
-      let from : a < most_temporaries h.code.code = omega (arith, k.temporaries_low) in
-      let t = h.holds.temporaries a from refl in
-      subst (λ z. Gives (Stands u next (with_temp temps d
-      (record { value = narrowed offset size (temps a).value; contents = z })) ws (spent 2 s))) (sym (t.none none))
-      (gives_narrowed i k offset size d a next refl refl (inl refl) low from
-      (held_of (world c h.keys s v) (c.layout.expansion.entries u n a) (temps a) _ _ (T a) v.values
-      (record { by = t.by; none = λ e. t.none none }))
-      offset_fits size_fits (few_numbers offset size few) k.put.has k.put.leads)

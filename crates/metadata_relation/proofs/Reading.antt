@@ -349,7 +349,7 @@ module _ (c : Compiled) (IsGood : Bytes → Type 0) (right : IsCompiled c IsGood
   -- ---- places
 
   -- of what is no scalar the place is read, which is its pointer
-  abbrev is_no_scalar : Kind → Bool
+  abbrev pub is_no_scalar : Kind → Bool
   is_no_scalar (OfScalar k) = false
   is_no_scalar kind = true
 
@@ -379,8 +379,7 @@ module _ (c : Compiled) (IsGood : Bytes → Type 0) (right : IsCompiled c IsGood
 
   module _ (kind : Kind) (other : is_no_scalar kind ≡ true) (mode : Mode) (line : ℕ) (key : Option ℕ) (d a next : ℕ)
       (settled : is_settled mode ≡ true)
-      (at : slice_get h.code.code n ≡ Some (tac.Read kind mode line key d a next))
-      (plain : c.layout.expansion.contents u n a ≡ false) where
+      (at : slice_get h.code.code n ≡ Some (tac.Read kind mode line key d a next)) where
     abbrev place_label : Instruction
     place_label = tac.Read kind mode line key d a next
 
@@ -397,7 +396,7 @@ module _ (c : Compiled) (IsGood : Bytes → Type 0) (right : IsCompiled c IsGood
     PlaceEffect q = keyed (keys_of (code_in c.layout.expansion.code u)) key place_paid q.value
         (admitted mode (size_of_kind kind) q s.objects (PlaceBehind q))
 
-    place_read : (p : Value)
+    pub place_read : (p : Value)
         → IsHeldAt (world c h.keys s v) (c.layout.expansion.entries u n a) p (temporary_register h.code a) v.values
         → (PlaceEffect (rvalue p) ≡ Stuck → ⊥) → Follows (PlaceEffect (rvalue p))
     place_read p held fine =
@@ -416,9 +415,10 @@ module _ (c : Compiled) (IsGood : Bytes → Type 0) (right : IsCompiled c IsGood
         (subst (HasAt body pc) list place_node.put.has)
         (subst (λ z. Leads body (pc + length z) (c.layout.address u next)) list place_node.put.leads) (omega arith))
 
-    pub read_at : (effect c.setting (expansion_of c).code place_label u temps ws place_paid ≡ Stuck → ⊥)
+    pub read_at : c.layout.expansion.contents u n a ≡ false
+        → (effect c.setting (expansion_of c).code place_label u temps ws place_paid ≡ Stuck → ⊥)
         → Follows (effect c.setting (expansion_of c).code place_label u temps ws place_paid)
-    read_at fine =
+    read_at plain fine =
         let held = plain_operand a (omega (arith, place_node.temporaries_low)) plain in
         subst (λ q. (PlaceEffect q ≡ Stuck → ⊥) → Follows (PlaceEffect q)) (sym held.0)
         (place_read (temps a).value held.1) fine

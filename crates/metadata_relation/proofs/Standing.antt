@@ -143,7 +143,7 @@ pub record IsNode (c : Compiled) (u n : ℕ) (code : CodeFunction) (i : Instruct
       (c.layout.address u n) i
   pub temporaries_low : temporaries i ≤ most_temporaries code.code
   pub closed : AreClosed c.layout.expansion.code code (c.layout.expansion.entries u)
-  pub kept : AreKept code (c.layout.expansion.contents u)
+  pub kept : AreKept c.layout.expansion.code code (c.layout.expansion.contents u)
   pub at : slice_get code.code n ≡ Some i
 
 module _ (c : Compiled) (IsGood : Bytes → Type 0) where

@@ -67,6 +67,7 @@ use Rattle.metadata_relation.proofs.Acting.{reached_then, reached_words}
 use Rattle.metadata_relation.proofs.Accesses.{live_direct}
 use Rattle.metadata_relation.proofs.AreaPlaces.{put_most}
 use Rattle.metadata_relation.proofs.AreaSteps.{area_begun, areas, charge_is, contents_left, IsBegun, place_here}
+use Rattle.metadata_relation.proofs.AreaSteps.{place_low}
 use Rattle.metadata_relation.proofs.Assigning.{assigned, assigns}
 use Rattle.metadata_relation.proofs.CalleeTests.{differs}
 use Rattle.metadata_relation.proofs.Finishing.{acted_as, acted_worked, nothing_done}
@@ -87,7 +88,7 @@ taken_there x v size line d =
 
 -- ---- lock words
 
-locks_high : (m : MapSizes) → 0 < region_start m Locks
+pub locks_high : (m : MapSizes) → 0 < region_start m Locks
 unfolding region_start
 locks_high m = omega arith
 
@@ -102,28 +103,31 @@ module _ (size offset area d a : ℕ) (values : flat.Values) (apart : a + 5 ≤ 
   abbrev three : flat.Values
   three = put two (d + 2) (two (a + 2))
 
+  abbrev four : flat.Values
+  four = put three (d + 3) 0
+
   pub part_moved : HoldsPart (held_from a) size offset area values
       → HoldsPart (held_from d) size offset area (assigned (move_part d a) values)
   part_moved h = record {
-    part = put_other three (d + 4) 0 d (λ e. omega arith) ∙ put_other two (d + 2) (two (a + 2)) d (λ e. omega arith)
+    part = put_other four (d + 4) 0 d (λ e. omega arith) ∙ put_other three (d + 3) 0 d (λ e. omega arith) ∙ put_other two (d + 2) (two (a + 2)) d (λ e. omega arith)
         ∙ put_other one (d + 1) (one (a + 1)) d (λ e. omega arith) ∙ put_same values d (values a) ∙ h.part;
-    base = put_other three (d + 4) 0 (d + 1) (λ e. omega arith)
+    base = put_other four (d + 4) 0 (d + 1) (λ e. omega arith) ∙ put_other three (d + 3) 0 (d + 1) (λ e. omega arith)
         ∙ put_other two (d + 2) (two (a + 2)) (d + 1) (λ e. omega arith) ∙ put_same one (d + 1) (one (a + 1))
         ∙ put_other values d (values a) (a + 1) (λ e. omega arith) ∙ h.base;
-    bound = put_other three (d + 4) 0 (d + 2) (λ e. omega arith) ∙ put_same two (d + 2) (two (a + 2))
+    bound = put_other four (d + 4) 0 (d + 2) (λ e. omega arith) ∙ put_other three (d + 3) 0 (d + 2) (λ e. omega arith) ∙ put_same two (d + 2) (two (a + 2))
         ∙ put_other one (d + 1) (one (a + 1)) (a + 2) (λ e. omega arith)
         ∙ put_other values d (values a) (a + 2) (λ e. omega arith) ∙ h.bound;
-    no_lock = put_same three (d + 4) 0;
+    no_lock = put_same four (d + 4) 0;
   }
 
   pub part_others : (y : ℕ) → y < d → assigned (move_part d a) values y ≡ values y
   part_others y lt =
-      put_other three (d + 4) 0 y (λ e. omega arith) ∙ put_other two (d + 2) (two (a + 2)) y (λ e. omega arith)
+      put_other four (d + 4) 0 y (λ e. omega arith) ∙ put_other three (d + 3) 0 y (λ e. omega arith) ∙ put_other two (d + 2) (two (a + 2)) y (λ e. omega arith)
       ∙ put_other one (d + 1) (one (a + 1)) y (λ e. omega arith) ∙ put_other values d (values a) y (λ e. omega arith)
 
   part_above : (y : ℕ) → d + 5 ≤ y → assigned (move_part d a) values y ≡ values y
   part_above y le =
-      put_other three (d + 4) 0 y (λ e. omega arith) ∙ put_other two (d + 2) (two (a + 2)) y (λ e. omega arith)
+      put_other four (d + 4) 0 y (λ e. omega arith) ∙ put_other three (d + 3) 0 y (λ e. omega arith) ∙ put_other two (d + 2) (two (a + 2)) y (λ e. omega arith)
       ∙ put_other one (d + 1) (one (a + 1)) y (λ e. omega arith) ∙ put_other values d (values a) y (λ e. omega arith)
 
 module _ (c : Compiled) (IsGood : Bytes → Type 0) (right : IsCompiled c IsGood)
@@ -412,6 +416,9 @@ module _ (c : Compiled) (IsGood : Bytes → Type 0) (right : IsCompiled c IsGood
             let few = small in
             let v1 : flat.State = record v { values = f.values; work = f.work } in
             let part = held.entry entry_is in
+            let lies = place_low c IsGood right have u n temps ws s v xs h held.place in
+            let word : v.values (T a) ≡ area_of m t h.code s.charged a + q.word =
+            held.word ∙ omega (arith, lies, inside) in
             let lock = f.others (held_from (T a)).tag.lock (omega arith) in
             let pass = branch_passed_comes m p u at_branch v1 xs Bne (held_from (T a)).tag.lock (Number 0)
             (length part_list + 1)
@@ -440,8 +447,8 @@ module _ (c : Compiled) (IsGood : Bytes → Type 0) (right : IsCompiled c IsGood
             let moving = assigns m p u xs moves refl at_moves v3 (has_front body at_moves moves call has_moves) in
             let values = assigned moves made.after in
             let v4 : flat.State = record v { values = values; work = v3.work + moving.work } in
-            let at_call = at_moves + 4 in
-            let three = reached_next m p u xs pc at_moves at_call v v3 (record v3 { values = values }) 40 8 two moving
+            let at_call = at_moves + 5 in
+            let three = reached_next m p u xs pc at_moves at_call v v3 (record v3 { values = values }) 40 10 two moving
             in
             let has_call = has_back body at_moves moves call has_moves in
             let same = λ (y : ℕ) (lt : y < free + 3).
@@ -452,7 +459,7 @@ module _ (c : Compiled) (IsGood : Bytes → Type 0) (right : IsCompiled c IsGood
             let to = same (free + 2) (omega arith) ∙ f.first in
             let ready : HoldsPart (held_from (T a)) from.size q.word (area_of m t h.code s.charged a) made.after =
             record {
-              part = made.others (T a) (omega arith) (λ e. omega arith) ∙ f.others (T a) (omega arith) ∙ part.part;
+              part = made.others (T a) (omega arith) (λ e. omega arith) ∙ f.others (T a) (omega arith) ∙ word;
               base = made.others (T a + 1) (omega arith) (λ e. omega arith) ∙ f.others (T a + 1) (omega arith) ∙
                   part.base;
               bound = made.others (T a + 2) (omega arith) (λ e. omega arith) ∙ f.others (T a + 2) (omega arith) ∙
@@ -473,7 +480,7 @@ module _ (c : Compiled) (IsGood : Bytes → Type 0) (right : IsCompiled c IsGood
             (record { calls = called.calls; is = called.of.is }) called.of.code.0 from q size line
             (area_of m t h.code s.charged a)
             (record {
-              words = reached_words m p u xs pc at_call v v4 48 words three;
+              words = reached_words m p u xs pc at_call v v4 50 words three;
               stands = stands_in values v4.work;
             })
             (record {
@@ -493,19 +500,19 @@ module _ (c : Compiled) (IsGood : Bytes → Type 0) (right : IsCompiled c IsGood
             let bound = work_of_call 7 0 1 (40 + 13 * work_from (taken (Some from) size q line) paid) in
             let w = served.holds in
             let y = w.behind.state in
-            let all = reached_then m p u xs pc at_call (at_call + 1) v v4 y 48 bound three
+            let all = reached_then m p u xs pc at_call (at_call + 1) v v4 y 50 bound three
             (record { steps = served.steps; comes = served.comes ∙ w.behind.at; few = w.behind.work }) in
             let counted = length-append constants (moves ++ call) in
             let stop : at_call + 1 ≡ at_branch + 1 + length part_list = omega (arith, counted) in
-            let jump = reached_on m p u xs pc (at_branch + 1 + length part_list) at_hold v y (48 + bound)
-            (subst (λ r. Reached m p u pc v xs r y (48 + bound)) stop all)
+            let jump = reached_on m p u xs pc (at_branch + 1 + length part_list) at_hold v y (50 + bound)
+            (subst (λ r. Reached m p u pc v xs r y (50 + bound)) stop all)
             (Forward (length place_list) has_jump.0 (omega arith)) in
             let y' : flat.State = record y { work = jump.0 } in
             let is = contents_size size q.word from in
             let some = sized in
             contents_left c IsGood right have u n temps ws s v xs h label nd d next free (free + 1) at_hold k'
             (paid.work + size)
-            z.work (48 + bound + 2) y' refl (inl refl) low (omega arith) (omega arith) (omega (arith, is)) may
+            z.work (50 + bound + 2) y' refl (inl refl) low (omega arith) (omega arith) (omega (arith, is)) may
             jump.1 has_hold leads
             (w.behind.others free (inl (omega arith)) ∙ address)
             (w.behind.others (free + 1) (inl (omega arith)) ∙ same (free + 1) (omega arith) ∙ f.ends

@@ -2,8 +2,8 @@
 use Rattle.std.proofs.Common.{◌≡◌, inl, ℕ, ◌+◌, ◌*◌, ◌^◌, ◌<◌, ◌≤◌, Bool, true, false, List, []}
 use Rattle.std.proofs.Common.{◌∷◌, ◌++◌, length, length-append, Option, Some, None, refl, sym, ap, ap₂, ◌∙◌, subst}
 use Rattle.std.proofs.Common.{arith}
-use Rattle.std.specs.Prelude.{slice_get}
-use Rattle.std.proofs.lemmas.Bool.{eq-eqb}
+use Rattle.std.specs.Prelude.{slice_get, ◌==◌}
+use Rattle.std.proofs.lemmas.Bool.{eq-eqb, or_left}
 use Rattle.behaviours.specs.Steps.{run}
 use Rattle.behaviours.proofs.Running.{run_add}
 use Rattle.sb_base.specs.declared.ending.Ending.TheVariants.{Divide}
@@ -382,7 +382,8 @@ module _ (c : Compiled) (IsGood : Bytes → Type 0) (right : IsCompiled c IsGood
 
     operand : Operand y2 at_binary 8 (free + 2) word r
     operand =
-        operand_made label nd r y2 at_right 6 (free + 2) (λ b e. e) right_low (omega arith)
+        operand_made label nd r y2 at_right 6 (free + 2) (λ b e. or_left (is_right r b) (b == a) e) right_low
+        (omega arith)
         (reached_computed (map_of c) c.layout.program u xs pc at_first at_right (free + 1) (fit t (y1.values free)) (free + 2 + 1)
         v y1 2 2 load_passed.reached first_made)
         (λ x lt. first_made.others x (omega arith) (λ e. omega arith) ∙ load_others x lt)
@@ -657,8 +658,8 @@ module _ (c : Compiled) (IsGood : Bytes → Type 0) (right : IsCompiled c IsGood
           h.steady.keys
 
       pointer_operand : Operand pointer_loaded.after at_moves 44 (free + 6) right_word r
-      pointer_operand = operand_made pointer_label pointer_node r pointer_loaded.after at_rights 42 (free + 6) (λ b e. e)
-          operand_low (omega arith) pointer_loaded.reached loaded_others (has_front body at_rights rights moves has_address)
+      pointer_operand = operand_made pointer_label pointer_node r pointer_loaded.after at_rights 42 (free + 6)
+          (λ b e. or_left (is_right r b) (b == a) e) operand_low (omega arith) pointer_loaded.reached loaded_others (has_front body at_rights rights moves has_address)
 
       abbrev with_operand : flat.State
       with_operand = record pointer_loaded.after { values = pointer_operand.values; work = pointer_operand.work }

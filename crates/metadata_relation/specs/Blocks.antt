@@ -78,7 +78,7 @@ use Rattle.metadata_relation.specs.Contents.{Contents}
 use Rattle.metadata_relation.specs.FunctionTypes.{first_of_type}
 use Rattle.metadata_relation.specs.InlineCode.{InlineCode}
 use Rattle.metadata_relation.specs.Printing.{print_code, scan_statuses}
-use Rattle.metadata_relation.specs.Structures.{copy_code}
+use Rattle.metadata_relation.specs.Structures.{has_area, put_code, take_structure_code, zero_structure_code}
 use Rattle.metadata_relation.specs.Registers.{passed_as, parameters_end, area_words, result_words, variable_words}
 use Rattle.metadata_relation.specs.Registers.{total}
 use Rattle.metadata_relation.specs.Registers.{variable_register, home_register, home_entry, lock_register, top_register}
@@ -482,9 +482,10 @@ zero_code o t c x size s =
     ∷ (o.constant (s + 1) size (s + 2) ++ (Call (runtime_number t zero_place) s (s + 2) ∷ []))
 
 -- what the assignment of a structure gives is its place
-abbrev pub write_structure_code : OperatorCode → Tac → (with_entry : Bool) → (size into pointer value scratch : ℕ)
-    → List FlatInstruction
-write_structure_code o t b size d p a s = Move s p ∷ (copy_code o (runtime_number t) a size s ++ move_value b d p)
+abbrev pub write_structure_code : OperatorCode → Tac → (has_area with_entry : Bool)
+    → (size into pointer value scratch : ℕ) → List FlatInstruction
+write_structure_code o t area b size d p a s =
+    Move s p ∷ (put_code o (runtime_number t) area a size s ++ move_value b d p)
 
 -- ---- blocks
 
@@ -650,7 +651,9 @@ block e u c (tac.HomePointer d x m) = home_code c (e.entries u m d) (temporary_r
 block e u c (tac.StaticPointer d n m) =
     static_code e.inline.operators (static_object e.map e.code n) (region_start e.map Locks) (e.entries u m d)
     (temporary_register c d) (first_free c)
-block e u c (tac.ZeroOf (Structure size) d m) = End (AbortAt 1) ∷ []
+block e u c (tac.ZeroOf (Structure size) d m) =
+    zero_structure_code e.inline.operators e.map e.code c (runtime_number e.code) (e.entries u m d) size d
+    (temporary_register c d) (first_free c)
 block e u c (tac.ZeroOf kind d m) =
     Constant (temporary_register c d) 0 ∷ untagged (e.entries u m d) (temporary_register c d)
 block e u c (tac.Convert kind d a m) =
@@ -674,13 +677,16 @@ block e u c (tac.Narrow offset size d a m) =
     narrow_code e.inline (e.entries u m d) offset size (temporary_register c d) (temporary_register c a) (first_free c)
 block e u c (tac.Member offset size d a m) =
     narrow_code e.inline (e.entries u m d) offset size (temporary_register c d) (temporary_register c a) (first_free c)
+block e u c (tac.Take (Structure size) line d a m) =
+    take_structure_code e.inline.operators e.map e.code c (runtime_number e.code) (e.entries u m d) size d
+    (temporary_register c d) (temporary_register c a) (first_free c)
 block e u c (tac.Read kind mode line key d a m) =
     read_code e.inline kind (e.entries u m d) (temporary_register c d) (temporary_register c a) (first_free c)
 block e u c (tac.Write (OfScalar k) mode line key d a b m) =
     write_code e.inline k (e.entries u m d) (temporary_register c d) (temporary_register c a) (temporary_register c b)
     (first_free c)
 block e u c (tac.Write (Structure size) mode line key d a b m) =
-    write_structure_code e.inline.operators e.code (e.entries u m d) size (temporary_register c d)
+    write_structure_code e.inline.operators e.code (has_area e.code c b) (e.entries u m d) size (temporary_register c d)
     (temporary_register c a) (temporary_register c b) (first_free c)
 block e u c (tac.Update w k f mode line at key d a right m) =
     update_code e.inline c w k f at (e.entries u m d) (temporary_register c d) (temporary_register c a) right
@@ -694,7 +700,8 @@ block e u c (tac.StorePart (OfScalar k) line x offset a m) =
     ++ e.inline.store (first_free c) (held_scalar k (temporary_register c a)) (first_free c + 1)
 block e u c (tac.StorePart (Structure size) line x offset a m) =
     part_address e.inline.operators c x offset (first_free c)
-    ++ copy_code e.inline.operators (runtime_number e.code) (temporary_register c a) size (first_free c)
+    ++ put_code e.inline.operators (runtime_number e.code) (has_area e.code c a) (temporary_register c a) size
+    (first_free c)
 block e u c (tac.StoreText n x offset m) =
     part_address e.inline.operators c x offset (first_free c)
     ++ store_bytes (text_in e.code n) (first_free c) (first_free c + 1)

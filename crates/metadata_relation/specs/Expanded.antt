@@ -70,4 +70,4 @@ pub record IsExpanded (l : Layout) (entry : View) (IsGood : Bytes → Type 0) : 
   pub types : HaveTypeKeys l.expansion.code.functions l.expansion.types
   pub closed : AreAllClosed l.expansion.code l.expansion.entries
   pub kept : (u : ℕ) (c : CodeFunction) → slice_get l.expansion.code.functions u ≡ Some c
-      → AreKept c (l.expansion.contents u)
+      → AreKept l.expansion.code c (l.expansion.contents u)

@@ -1,7 +1,8 @@
 -- What the registers of a function hold: words, pointers with their metadata, the homes of objects, and the contents of
 -- structures in areas.
-use Rattle.std.specs.Prelude.{◌≡◌, ℕ, ◌+◌, ◌-◌, ◌*◌, ◌<◌, ◌≤◌, Bool, true, false, List, [], ◌∷◌, length, get_or, Option}
-use Rattle.std.specs.Prelude.{Some, None}
+use Rattle.std.specs.Prelude.{◌≡◌, ℕ, ◌+◌, ◌-◌, ◌*◌, ◌%◌, ◌^◌, ◌<◌, ◌≤◌, Bool, true, false, List, [], ◌∷◌, length}
+use Rattle.std.specs.Prelude.{get_or}
+use Rattle.std.specs.Prelude.{Option, Some, None}
 use Rattle.std.specs.Prelude.{zero, suc}
 use Rattle.addr_map.specs.declared.region.Region.TheVariants.{StructureValues}
 use Rattle.addr_map.specs.Places.{MapSizes, region_end, region_start}
@@ -25,10 +26,11 @@ use Rattle.tac_ir.specs.Stage.{Temps}
 use Rattle.tac_ir.specs.Structures.{greatest_structure, structures_below}
 use Rattle.flat_code.specs.Memory.{Bytes}
 use Rattle.flat_code.specs.State.{Values}
+use Rattle.flat_code.specs.declared.registers.Entry.{Entry}
 use Rattle.flat_code.specs.Routines.Metadata.{metadata_in}
 use Rattle.flat_code.specs.Routines.Objects.StandsFor.{Views, Keys, Spells, spell}
 use Rattle.flat_actions.specs.Actions.{KeepsHeld}
-use Rattle.lib_wrappers.specs.AreaRoutines.Areas.{IsArea, IsAreaPlace, HoldsPart}
+use Rattle.lib_wrappers.specs.AreaRoutines.Areas.{IsArea, IsAreaPlace, entries_begin}
 use Rattle.runtime_functions.specs.Library.{held_from}
 use Rattle.metadata_plan.specs.Registers.{all_variables, most_temporaries}
 use Rattle.metadata_relation.specs.Registers.{entry_from, variable_register, home_register, temporary_register}
@@ -64,12 +66,19 @@ pub record IsHeldAt (w : World) (with_entry : Bool) (v : Value) (register : ℕ)
 abbrev pub area_of : MapSizes → Tac → CodeFunction → (charged temporary : ℕ) → ℕ
 area_of m t c charged i = region_start m StructureValues + (charged - c.room) + 5 * structures_below t c.code i
 
--- contents stand in an area, and registers hold the part of them that the value is; they are no greater than the area is
--- for
+-- The entry of a part of contents: where the area begins, and where its entries do. There is no lock word, which each place
+-- has.
+pub record IsPartEntry (entry : Entry) (size area : ℕ) (values : Values) : Type 0 where
+  pub base : values entry.base ≡ area
+  pub bound : values entry.bound ≡ entries_begin area size
+  pub no_lock : values entry.lock ≡ 0
+
+-- Contents stand in an area, and registers hold the part of them that the value is, which is moved to a member as a
+-- pointer is; they are no greater than the area is for.
 pub record IsContentsAt (w : World) (with_entry : Bool) (v : Value) (contents : ObjectState) (greatest area register : ℕ)
     (values : Values) : Type 0 where
-  pub word : values register ≡ area + v.word
-  pub entry : with_entry ≡ true → HoldsPart (held_from register) contents.size v.word area values
+  pub word : values register ≡ (area + v.word) % 2 ^ 64
+  pub entry : with_entry ≡ true → IsPartEntry (held_from register).tag contents.size area values
   pub place : IsAreaPlace w.views.sizes contents.size area
   pub small : contents.size ≤ greatest
   pub area_is : IsArea w.views w.keys contents area w.memory

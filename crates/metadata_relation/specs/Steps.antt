@@ -39,13 +39,15 @@ use Rattle.metadata_plan.specs.Registers.{all_variables}
 use Rattle.metadata_relation.specs.Blocks.{is_short, objects_of_body, result_of}
 use Rattle.metadata_relation.specs.InlineCode.{IsInlineCode}
 use Rattle.metadata_relation.specs.Expanded.{IsExpanded}
+use Rattle.metadata_relation.specs.Structures.{HaveAreas}
 use Rattle.metadata_relation.specs.Stages.{Compiled, map_of, Matches}
 
 -- The lists that stand inline do what is asked of them, the flat program is the expansion of the code, entries depend on the
 -- bytes of the shadow space alone, the sizes are those of a map, and the functions of the setting are those of the typed
 -- program. Each function has an entry in the jump table, and a number for its type that leaves the highest bit of a key
 -- free. The typed program is valid, the setting is its own, its functions have the headers of those of the code, each type
--- gives what it gives there, and the static objects are those that its initializers make.
+-- gives what it gives there, and the static objects are those that its initializers make. What the calls are charged for a
+-- function has room for its structures by value.
 pub record IsCompiled (c : Compiled) (IsGood : Bytes → Type 0) : Type 0 where
   pub inline : IsInlineCode (map_of c) c.entry IsGood c.layout.expansion.inline
   pub expanded : IsExpanded c.layout c.entry IsGood
@@ -62,6 +64,7 @@ pub record IsCompiled (c : Compiled) (IsGood : Bytes → Type 0) : Type 0 where
       ≡ initial_objects c.typed (setting_of c.typed (map_of c).budgets)
   pub results : c.layout.expansion.code.results ≡ c.setting.results
   pub headers : map header_of_code c.layout.expansion.code.functions ≡ map header_of c.typed.functions
+  pub areas : HaveAreas c.layout.expansion.code
 
 abbrev pub is_scalar_type : Option Scalar → Bool
 is_scalar_type None = false
@@ -74,11 +77,12 @@ is_no_aggregate (OfScalar k) = true
 is_no_aggregate (Structure n) = false
 is_no_aggregate (Array n) = false
 
-abbrev pub is_no_structure : Kind → Bool
-is_no_structure Void = true
-is_no_structure (OfScalar k) = true
-is_no_structure (Structure n) = false
-is_no_structure (Array n) = true
+-- a structure has a byte at least
+abbrev pub is_sized : Kind → Bool
+is_sized Void = true
+is_sized (OfScalar k) = true
+is_sized (Structure n) = nat_le 1 n
+is_sized (Array n) = true
 
 -- an update by elements of a size that is a word
 abbrev pub is_update_by_word : Update → Bool
@@ -124,12 +128,13 @@ covers c (tac.Skip m) = true
 covers c (tac.Constant d w m) = true
 covers c (tac.GetPlain d x m) = is_scalar_type (plain_type (all_variables c) x)
 covers c (tac.SetPlain x a m) = true
-covers c (tac.ZeroOf kind d m) = is_no_structure kind
+covers c (tac.ZeroOf kind d m) = is_sized kind
 covers c (tac.HomePointer d x m) = true
 covers c (tac.Convert kind d a m) = true
 covers c (tac.Unary op ty d a m) = true
 covers c (tac.Binary op ty line d a b m) = true
 covers c (tac.Offset form size d a b m) = is_word size
+covers c (tac.Take (Structure size) line d a m) = nat_le 1 size
 covers c (tac.Read kind mode line key d a m) = is_settled mode
 covers c (tac.Write (OfScalar k) mode line key d a b m) = is_settled mode
 covers c (tac.Write (Structure size) mode line key d a b m) = is_settled mode && is_word size
@@ -192,15 +197,11 @@ have_bytes [] = true
 have_bytes (piece.Byte b ∷ ps) = nat_lt b 256 && have_bytes ps
 have_bytes (piece.Directive d ∷ ps) = have_bytes ps
 
--- what is asked of the node besides: contents are read and written by other instructions, and a member of them is another
+-- What is asked of the node besides: where a structure is put into a temporary, this one may have contents; and a function
+-- takes scalars and gives one.
 abbrev pub admits : Compiled → (function node : ℕ) → Instruction → Bool
-admits c u n (tac.Read kind mode line key d a m) = not (c.layout.expansion.contents u n a)
-admits c u n (tac.Write (Structure size) mode line key d a b m) =
-    not (c.layout.expansion.contents u n a) && not (c.layout.expansion.contents u n b)
-admits c u n (tac.Write kind mode line key d a b m) = not (c.layout.expansion.contents u n a)
-admits c u n (tac.StorePart (Structure size) line x offset a m) = not (c.layout.expansion.contents u n a)
-admits c u n (tac.Update w k f mode line at key d a right m) = not (c.layout.expansion.contents u n a)
-admits c u n (tac.Member offset size d a m) = not (c.layout.expansion.contents u n a)
+admits c u n (tac.ZeroOf (Structure size) d m) = c.layout.expansion.contents u m d
+admits c u n (tac.Take kind line d a m) = c.layout.expansion.contents u m d
 admits c u n (tac.Print x line d count m) =
     have_bytes (pieces_or_none (pieces (text_in c.layout.expansion.code x)))
 admits c u n (tac.Call f line d count m) =

@@ -1,14 +1,14 @@
 -- Structures and unions by value (C99 6.5.2.2 paragraph 4, 6.5.16.1, 6.8.6.4 paragraph 3): one that is assigned from its
 -- place is moved by a function of the runtime, and so are contents that lie in the area of a temporary.
 use Rattle.std.specs.Prelude.{◌≡◌, ℕ, ◌+◌, ◌-◌, ◌*◌, ◌%◌, ◌≤◌, Bool, true, false, List, [], ◌∷◌, ◌++◌, Some, slice_get}
-use Rattle.std.specs.Prelude.{length}
+use Rattle.std.specs.Prelude.{length, nat_le}
 use Rattle.addr_map.specs.declared.region.Region.TheVariants.{StructureValues}
 use Rattle.addr_map.specs.Places.{MapSizes, region_start}
 use Rattle.rv_isa.specs.declared.instruction.BranchOp.TheVariants.{Bne}
 use Rattle.rv_isa.specs.declared.instruction.RegOp.TheVariants.{Add}
 use Rattle.tac_ir.specs.declared.function.CodeFunction.{CodeFunction}
 use Rattle.tac_ir.specs.declared.function.Tac.{Tac}
-use Rattle.tac_ir.specs.Structures.{structures_below}
+use Rattle.tac_ir.specs.Structures.{greatest_structure, structures_below}
 use Rattle.flat_code.specs.declared.instruction.RightOperand.TheVariants.{Number, Register}
 use Rattle.flat_code.specs.declared.instruction.FlatInstruction.{FlatInstruction}
 use Rattle.flat_code.specs.declared.instruction.FlatInstruction.TheVariants.{Branch, Call, Charged, Constant}
@@ -53,6 +53,10 @@ pub record HasAreas (t : Tac) (c : CodeFunction) : Type 0 where
 pub record HaveAreas (t : Tac) : Type 0 where
   pub each : (u : ℕ) (c : CodeFunction) → slice_get t.functions u ≡ Some c → HasAreas t c
 
+-- a temporary has an area where some instruction puts a structure into it
+abbrev pub has_area : Tac → CodeFunction → (temporary : ℕ) → Bool
+has_area t c i = nat_le 1 (greatest_structure t c.code i)
+
 -- where the area of a temporary begins is put into a register: areas lie as the calls are charged, those of a function
 -- from where those of the functions that wait end
 abbrev pub area_code : OperatorCode → MapSizes → Tac → CodeFunction → (temporary into : ℕ) → List FlatInstruction
@@ -65,14 +69,15 @@ area_code o m t c i r =
 abbrev pub bound_code : OperatorCode → (size area into : ℕ) → List FlatInstruction
 bound_code o size a r = o.constant r (whole_words size) (r + 1) ++ (Operate Add r r (Register a) ∷ [])
 
--- the registers of a temporary get the part that is all of the contents in an area: its address is in one register, and
--- where its entries begin in another one
+-- The registers of a temporary get the part that is all of the contents in an area: its address is in one register, and
+-- where its entries begin in another one. It has no key, and no lock word.
 abbrev pub hold_area : (with_entry : Bool) → (into area bound : ℕ) → List FlatInstruction
 hold_area false d a e = Move d a ∷ []
 hold_area true d a e =
     Move d a
     ∷ Move (held_from d).tag.base a
     ∷ Move (held_from d).tag.bound e
+    ∷ Constant (held_from d).tag.key 0
     ∷ Constant (held_from d).tag.lock 0
     ∷ []
 
@@ -90,12 +95,13 @@ zero_structure_code o m t c number b size i d s =
     begin_area_code o m t c size i s
     ++ (o.constant (s + 3) size (s + 4) ++ (Call (number zero_area_place) (s + 2) (s + 4) ∷ hold_area b d s (s + 1)))
 
--- the registers of a part go to others: it has no key, and no lock word
+-- the registers of a part go to others
 abbrev pub move_part : (into from : ℕ) → List FlatInstruction
 move_part d a =
     Move d a
     ∷ Move (held_from d).tag.base (held_from a).tag.base
     ∷ Move (held_from d).tag.bound (held_from a).tag.bound
+    ∷ Constant (held_from d).tag.key 0
     ∷ Constant (held_from d).tag.lock 0
     ∷ []
 
@@ -130,3 +136,9 @@ assign_code o number size a f =
     Branch Bne (held_from a).tag.lock (Number 0) (length (part_call_code o (number put_area_place) size a f) + 1)
     ∷ (part_call_code o (number put_area_place) size a f
     ++ (JumpForward (length (copy_code o number a size f)) ∷ copy_code o number a size f))
+
+-- It is from its place alone where the temporary has no area.
+abbrev pub put_code : OperatorCode → (number : (place : ℕ) → ℕ) → (has_area : Bool) → (from size scratch : ℕ)
+    → List FlatInstruction
+put_code o number false a size s = copy_code o number a size s
+put_code o number true a size s = assign_code o number size a s

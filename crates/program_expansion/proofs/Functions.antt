@@ -24,6 +24,7 @@ use Rattle.metadata_relation.specs.Laid.{entry_of, function_of, functions_from, 
 use Rattle.instruction_selection.proofs.OneEntry.{by_one}
 use Rattle.program_expansion.specs.Expansions.{AreFunctionsOf, HasFunction, IsBodyOf, IsExpansionOf, IsFunctionOf}
 use Rattle.program_expansion.specs.Expansions.{Refuses, expansion_of, flat_function, types_by}
+use Rattle.program_expansion.specs.Limits.{AreWithinLimits}
 use Rattle.program_expansion.specs.Tables.{AreTables, FunctionRefusal}
 use Rattle.program_expansion.specs.declared.error.ExpandError.{ExpandError}
 use Rattle.program_expansion.specs.declared.error.ExpandError.TheVariants.{Memory, OutsideLimits, TooManyInstructions}
@@ -163,16 +164,22 @@ module _ (read write : EntryCode) (m : MapSizes) (t : Tac) (types : ℕ → ℕ)
         ap (λ g. g ∷ fs) first ∙ ap (λ gs. function_of whole k c (homes c) ∷ gs) rest
 
     pub whole_program : (runtime : List FlatFunction) (p : FlatProgram) → HaveTypeKeys t.functions types
-        → ((f : ℕ) → types f < 2 ^ 63)
+        → ((f : ℕ) → types f < 2 ^ 63) → AreWithinLimits t
         → p ≡ record { functions = list ++ (runtime ++ entry_of m t ∷ []); entry = length t.functions + length runtime }
         → IsExpansionOf read write m t runtime p
-    whole_program runtime p keys low made = record {
+    whole_program runtime p keys low limits made = record {
       types = types;
       entries = entries_of;
       keys = keys;
       low = low;
       closed = record { by = λ u c e. (fits u c e).closed };
-      kept = λ u c e. record { kept = λ n x y i at leads other none. refl; words = λ n y i at takes. refl };
+      kept = λ u c e. record {
+        kept = λ n x y i at leads other none. refl;
+        made = λ n x d a i at leads gives source none. refl;
+        words = λ n y i at takes. refl;
+        areas = λ n y none. refl;
+      };
+      areas = record { each = λ u c e. (limits.functions u c e).areas };
       is = made
           ∙ ap (λ fs. record {
             functions = fs ++ (runtime ++ entry_of m t ∷ []);

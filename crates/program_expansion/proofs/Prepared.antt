@@ -9,9 +9,11 @@ use Rattle.tac_ir.specs.declared.function.Tac.{Tac}
 use Rattle.tac_ir.specs.Meaning.{if_there, objects_in}
 use Rattle.metadata_plan.specs.Registers.{all_variables, most_temporaries}
 use Rattle.metadata_plan.proofs.Numbers.{most_at}
+use Rattle.instruction_selection.specs.Areas.{HasTable}
 use Rattle.instruction_selection.specs.declared.context.FunctionContext.{FunctionContext}
 use Rattle.instruction_selection.specs.Contexts.{CanBeCalled, HasRegisters, HasStatics, IsPrepared, type_at}
 use Rattle.instruction_selection.specs.Registers.{IsAmong, function_named, last_handed, leaves_objects}
+use Rattle.instruction_selection.specs.Registers.{structure_taken}
 use Rattle.program_expansion.specs.Limits.{AreWithinLimits, IsSmall, IsWithinLimits, names_own, padded_size}
 use Rattle.program_expansion.proofs.Small.{bytes_few, length_few, objects_among, opened_few, parameters_few, size_few}
 use Rattle.program_expansion.proofs.Small.{total_append}
@@ -36,8 +38,9 @@ variables_few c h =
     omega (arith, sum, objects, few)
 
 pub prepared : (x : FunctionContext) → HasRegisters x → HasStatics x → ((f : ℕ) → type_at x f < 2 ^ 63)
-    → AreWithinLimits x.program.now → IsSmall x.function.now → IsPrepared x
-prepared x registers statics types limits h =
+    → AreWithinLimits x.program.now → IsSmall x.function.now → HasTable x.areas.now x.program.now x.function.now
+    → IsPrepared x
+prepared x registers statics types limits h areas =
     let c = x.function.now in
     let sum = total_append padded_size c.parameters c.variables in
     let objects = h.objects in
@@ -55,6 +58,7 @@ prepared x registers statics types limits h =
       blocks = λ b.
           let few = opened_few (if_there (slice_get c.blocks b)) 0 (all_variables c) in
           bytes_few (objects_in (Some c) b) (omega (arith, few, all));
+      areas = areas;
     }
 
 -- ---- instructions
@@ -74,11 +78,14 @@ pub is_among : (t : Tac) (c : CodeFunction) (n : ℕ) (i : Instruction) → IsWi
 is_among t c n i h e =
     let named : names_own t c i ≡ true = holds_at (names_own t c) c.code n i h.names e in
     let first = parts (nat_le (last_handed t i) (most_temporaries c.code))
-    (nat_le (function_named i) (2 ^ 12) && leaves_objects c i) named in
-    let second = parts (nat_le (function_named i) (2 ^ 12)) (leaves_objects c i) first.1 in
+    (nat_le (function_named i) (2 ^ 12) && (leaves_objects c i && nat_le (structure_taken i) (2 ^ 62))) named in
+    let second = parts (nat_le (function_named i) (2 ^ 12)) (leaves_objects c i && nat_le (structure_taken i) (2 ^ 62))
+    first.1 in
+    let third = parts (leaves_objects c i) (nat_le (structure_taken i) (2 ^ 62)) second.1 in
     record {
       temporaries = most_at c.code n i e;
       handed = leb-true (last_handed t i) (most_temporaries c.code) first.0;
       functions = leb-true (function_named i) (2 ^ 12) second.0;
-      left = second.1;
+      left = third.0;
+      taken = leb-true (structure_taken i) (2 ^ 62) third.1;
     }

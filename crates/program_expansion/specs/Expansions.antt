@@ -12,6 +12,7 @@ use Rattle.metadata_plan.specs.Entries.{AreAllClosed, AreClosed, Entries}
 use Rattle.metadata_relation.specs.Contents.{AreKept}
 use Rattle.metadata_relation.specs.FunctionTypes.{HaveTypeKeys}
 use Rattle.metadata_relation.specs.InlineLists.{inline_lists}
+use Rattle.metadata_relation.specs.Structures.{HaveAreas}
 use Rattle.metadata_plan.specs.Laid.{body_of}
 use Rattle.metadata_relation.specs.Registers.{area_words, parameters_end, result_words}
 use Rattle.metadata_relation.specs.Blocks.{Expansion, block, prologue, result_of}
@@ -25,7 +26,7 @@ use Rattle.program_expansion.specs.Limits.{AreWithinLimits}
 use Rattle.program_expansion.specs.declared.error.ExpandError.{ExpandError}
 use Rattle.program_expansion.specs.declared.error.ExpandError.TheVariants as error
 
--- no temporary has contents, since no instruction that gives them has a block
+-- No temporary has contents, since no function takes or gives a structure.
 abbrev pub expansion_of : (read write : EntryCode) → MapSizes → Tac → (types : ℕ → ℕ)
     → (entries : (function : ℕ) → Entries) → Expansion
 expansion_of read write m t types entries = record {
@@ -124,7 +125,8 @@ pub record IsExpansionOf (read write : EntryCode) (map : MapSizes) (code : Tac) 
   pub low : (f : ℕ) → types f < 2 ^ 63
   pub closed : AreAllClosed code entries
   pub kept : (u : ℕ) (c : CodeFunction) → slice_get code.functions u ≡ Some c
-      → AreKept c ((expansion_of read write map code types entries).contents u)
+      → AreKept code c ((expansion_of read write map code types entries).contents u)
+  pub areas : HaveAreas code
   pub is : program ≡ program_of (expansion_of read write map code types entries) homes runtime
 
 -- a function has 2^31 instructions or more

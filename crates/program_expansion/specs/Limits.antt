@@ -11,7 +11,9 @@ use Rattle.tac_ir.specs.declared.function.Tac.{Tac}
 use Rattle.metadata_plan.specs.Registers.{most_temporaries}
 use Rattle.metadata_relation.specs.Registers.{total}
 use Rattle.metadata_relation.specs.StartData.{statics_end}
-use Rattle.instruction_selection.specs.Registers.{HasFewRegisters, last_handed, function_named, leaves_objects}
+use Rattle.metadata_relation.specs.Structures.{HasAreas}
+use Rattle.instruction_selection.specs.Registers.{HasFewRegisters, last_handed, function_named}
+use Rattle.instruction_selection.specs.Registers.{leaves_objects, structure_taken}
 
 -- the bytes of a variable, and of what may stand before it so that it begins at a multiple of 16
 abbrev pub padded_size : Variable → ℕ
@@ -25,10 +27,12 @@ HaveFewBytes ps vs = total padded_size ps + total padded_size vs ≤ 2 ^ 62
 abbrev pub HaveObjectsOf : (all declared : List Variable) → Type 0
 HaveObjectsOf all vs = (x : ℕ) → (at_number vs x).is_object ≡ true → (at_number all x).is_object ≡ true
 
--- an instruction names temporaries of its function, and functions that have an address in the jump table
+-- an instruction names temporaries of its function, and functions that have an address in the jump table, and takes a
+-- structure whose bytes have a number of 62 bits
 abbrev pub names_own : Tac → CodeFunction → Instruction → Bool
 names_own t c i =
-    nat_le (last_handed t i) (most_temporaries c.code) && (nat_le (function_named i) (2 ^ 12) && leaves_objects c i)
+    nat_le (last_handed t i) (most_temporaries c.code)
+    && (nat_le (function_named i) (2 ^ 12) && (leaves_objects c i && nat_le (structure_taken i) (2 ^ 62)))
 
 -- its registers and the bytes of its variables have small numbers, and its body declares objects of its own
 pub record IsSmall (function : CodeFunction) : Type 0 where
@@ -37,8 +41,10 @@ pub record IsSmall (function : CodeFunction) : Type 0 where
   pub body : HaveFewBytes function.parameters function.entered
   pub entered : HaveObjectsOf function.variables function.entered
 
+-- what the calls are charged for it has room for its structures by value
 pub record IsWithinLimits (code : Tac) (function : CodeFunction) : Type 0 where
   pub small : IsSmall function
+  pub areas : HasAreas code function
   pub names : list_all (names_own code function) function.code ≡ true
 
 pub record AreWithinLimits (code : Tac) : Type 0 where

@@ -1,11 +1,14 @@
 //! Whether a program is within limits.
 
-ghost use Rattle.std.specs.Prelude.{◌≡◌, ◌<◌, ◌≤◌, ◌↔◌, length, IfOk, IsTrue, Some, slice_get};
+ghost use Rattle.std.specs.Prelude.{◌≡◌, ◌<◌, ◌≤◌, ◌^◌, ◌↔◌, length, IfOk, IsTrue, Some, slice_get};
+ghost use Rattle.metadata_plan.specs.Registers.{most_temporaries};
 ghost use Rattle.metadata_relation.specs.StartData.{statics_end};
+ghost use Rattle.metadata_relation.specs.Structures.{HasAreas};
 ghost use Rattle.program_expansion.specs.Limits.{AreWithinLimits, IsSmall, IsWithinLimits};
 
 use crate::names::name_own;
 use crate::sizes::{has_few_registers, have_few_bytes, have_objects_of};
+use instruction_selection::areas::structure_areas;
 use static_data::pointers::rounded;
 use std::alloc::{AllocError, Global};
 use tac_ir::{CodeFunction, StaticData, Tac};
@@ -23,6 +26,17 @@ fn is_small(function: &CodeFunction) -> bool
         && have_objects_of(variables, entered)
 }
 
+// Whether what the calls are charged for a function has room for its structures by value.
+fn has_areas(alloc: Global, program: &Tac, function: &CodeFunction) -> Result<bool, AllocError>
+    requires { most_temporaries function.now.code < 2 ^ 31 }
+    ensures { IfOk result (λ b. IsTrue b ↔ HasAreas program.now function.now) }
+{
+    match structure_areas(alloc, program, function)? {
+        Some(_) => Ok(true),
+        None => Ok(false),
+    }
+}
+
 // Whether a function is within limits.
 fn is_within_limits(
     alloc: Global,
@@ -32,6 +46,9 @@ fn is_within_limits(
     ensures { IfOk result (λ b. IsTrue b ↔ IsWithinLimits program.now function.now) }
 {
     if !is_small(function) {
+        return Ok(false);
+    }
+    if !has_areas(alloc, program, function)? {
         return Ok(false);
     }
     name_own(alloc, program, function)

@@ -46,6 +46,7 @@ fn entry_behind(entries: &EntryTable, instruction: &Instruction) -> bool
         | Instruction::Difference { to, next, .. }
         | Instruction::Narrow { to, next, .. }
         | Instruction::Member { to, next, .. }
+        | Instruction::Take { to, next, .. }
         | Instruction::Read { to, next, .. }
         | Instruction::Write { to, next, .. }
         | Instruction::Update { to, next, .. } => entries.has(*next, *to),
@@ -56,7 +57,6 @@ fn entry_behind(entries: &EntryTable, instruction: &Instruction) -> bool
         Instruction::Reserved
         | Instruction::Skip { .. }
         | Instruction::SetPlain { .. }
-        | Instruction::Take { .. }
         | Instruction::Judge { .. }
         | Instruction::Zero { .. }
         | Instruction::StorePart { .. }

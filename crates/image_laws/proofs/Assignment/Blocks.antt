@@ -40,7 +40,8 @@ use Rattle.flat_code.specs.declared.instruction.FlatInstruction.TheVariants.{Bra
 use Rattle.flat_code.specs.Routines.Metadata.{entry_registers}
 use Rattle.flat_operators.specs.Operators.{constant_code, conversion_code, unary_code, binary_code}
 use Rattle.flat_operators.specs.Pointers.{offset_code, difference_code}
-use Rattle.runtime_functions.specs.declared.runtime.RuntimeFunction.TheVariants.{Zero, CopyTagged, Enter}
+use Rattle.runtime_functions.specs.declared.runtime.RuntimeFunction.TheVariants.{Zero, Enter, CopyTagged, ZeroArea}
+use Rattle.runtime_functions.specs.declared.runtime.RuntimeFunction.TheVariants.{MoveArea, PutArea, TakeArea}
 use Rattle.runtime_functions.specs.Library.{held_from}
 use Rattle.metadata_plan.specs.Entries.{pointer_of, is_pointer_type, entry_source, key_in}
 use Rattle.metadata_plan.specs.Entries.{can_compare, reads_for, is_name, has_fixed_path}
@@ -55,9 +56,10 @@ use Rattle.metadata_relation.specs.Blocks.{Expansion, block, untagged, move_valu
 use Rattle.metadata_relation.specs.Blocks.{get_code, set_code}
 use Rattle.metadata_relation.specs.Blocks.{conversion, update_plain_code, update_code, named_address, named_size}
 use Rattle.metadata_relation.specs.Blocks.{path_range}
+use Rattle.metadata_relation.specs.Structures.{copy_place, has_area, move_area_place, put_area_place, take_area_place}
+use Rattle.metadata_relation.specs.Structures.{zero_area_place}
 use Rattle.metadata_relation.specs.Blocks.{judge_code, check_code, compare_code, runtime_number, zero_place}
 use Rattle.metadata_relation.specs.Blocks.{enter_place}
-use Rattle.metadata_relation.specs.Structures.{copy_place}
 use Rattle.c_lower.specs.Liveness.Liveness.{reads, is_right}
 use Rattle.image_laws.specs.Plans.Assignment.{Registers, IsOneOf, passed_over}
 use Rattle.image_laws.specs.Plans.Instructions.{entry_of, value_of, made_registers, is_plain}
@@ -78,7 +80,8 @@ use Rattle.image_laws.proofs.Assignment.Updates.{IsRight, updated_integer, updat
 use Rattle.image_laws.proofs.Assignment.Updates.{changed_pointer}
 use Rattle.image_laws.proofs.Assignment.Checks.{narrowed_block, checked_block, ranged_block, part_flows, stored_part}
 use Rattle.image_laws.proofs.Assignment.Checks.{stored_text, zeroed_block}
-use Rattle.image_laws.proofs.Assignment.Structures.{assigned_structure, stored_structure}
+use Rattle.image_laws.proofs.Assignment.Structures.{structure_of_zeros, structure_stored, structure_taken}
+use Rattle.image_laws.proofs.Assignment.Structures.{structure_written}
 use Rattle.image_laws.proofs.Assignment.Homes.{named_block, entered_block, left_flows}
 use Rattle.image_laws.proofs.Assignment.Sites.{Site, P as NamedAt, B as BlockAt, Has as HasAt, temporary_named, own}
 use Rattle.image_laws.proofs.Assignment.Sites.{home_named, top_named, variable_named, free_named, itself, no_entry}
@@ -355,8 +358,9 @@ module _ (site : Site) where
       (temporary_named site d (whole.entries u m d) (omega (arith, lt)))
   block_of (tac.ZeroOf (Structure size) d m) ok at has homes =
       let lt = most_at c.code n (tac.ZeroOf (Structure size) d m) at in
-      stopped site (Abort 1) (value_of (whole.entries u m d) (temporary_register c d))
-      (temporary_named site d (whole.entries u m d) (omega (arith, lt)))
+      structure_of_zeros p u P G low whole.map whole.code c (runtime_number whole.code) (whole.entries u m d) size d
+      (temporary_register c d) (first_free c) (callees.runtime zero_area_place ZeroArea refl)
+      (temporary_named site d (whole.entries u m d) (omega (arith, lt))) (own site)
   block_of (tac.ZeroOf kind d m) ok at has homes =
       let lt = most_at c.code n (tac.ZeroOf kind d m) at in
       zero_block p u P G low (whole.entries u m d) (temporary_register c d)
@@ -463,6 +467,14 @@ module _ (site : Site) where
       narrowed_block p u P read write whole.map G low (whole.entries u m d) offset size (temporary_register c d)
       (temporary_register c a) (first_free c) (from_source site i m d a at (inl refl) refl refl has (itself site a))
       (temporary_named site d (whole.entries u m d) (omega (arith, lt))) (own site)
+  block_of (tac.Take (Structure size) line d a m) ok at has homes =
+      let i = tac.Take (Structure size) line d a m in
+      let lt = most_at c.code n i at in
+      structure_taken p u P G low whole.map whole.code c (runtime_number whole.code) (whole.entries u m d) size d
+      (temporary_register c d) (temporary_register c a) (first_free c)
+      (callees.runtime take_area_place TakeArea refl) (callees.runtime move_area_place MoveArea refl)
+      (tagged_in site i a at has (itself site a) (and_from (a == a) true (itself site a) refl))
+      (temporary_named site d (whole.entries u m d) (omega (arith, lt))) (own site)
   block_of (tac.Take kind line d a m) ok at has homes =
       let lt = most_at c.code n (tac.Take kind line d a m) at in
       stopped site (Abort 1) (value_of (whole.entries u m d) (temporary_register c d))
@@ -495,12 +507,13 @@ module _ (site : Site) where
   block_of (tac.Write (Structure size) mode line key d a b m) ok at has homes =
       let i = tac.Write (Structure size) mode line key d a b m in
       let lt = most_at c.code n i at in
-      let known = callees.runtime copy_place CopyTagged refl in
-      let A = or_left (a == a) (a == b) (itself site a) in
-      assigned_structure p u P (runtime_number whole.code copy_place) known.0 known.1 G low (whole.entries u m d) size
+      structure_written p u P G low (runtime_number whole.code) (has_area whole.code c b) (whole.entries u m d) size
       (temporary_register c d) (temporary_register c a) (temporary_register c b) (first_free c)
-      (from_source site i m d a at (inl refl) refl refl has A) (word site i a has A)
-      (word site i b has (or_right (b == a) (b == b) (itself site b)))
+      (callees.runtime copy_place CopyTagged refl) (callees.runtime put_area_place PutArea refl)
+      (from_source site i m d a at (inl refl) refl refl has (or_left (a == a) (a == b) (itself site a)))
+      (word site i a has (or_left (a == a) (a == b) (itself site a)))
+      (tagged_in site i b at has (or_right (b == a) (b == b) (itself site b))
+      (and_from (b == b) true (itself site b) refl))
       (temporary_named site d (whole.entries u m d) (omega (arith, lt))) (own site)
   block_of (tac.Write kind mode line key d a b m) ok at has homes =
       let lt = most_at c.code n (tac.Write kind mode line key d a b m) at in
@@ -530,10 +543,11 @@ module _ (site : Site) where
           tagged_in site (tac.StorePart (OfScalar Pointer) line x offset a m) a at has (itself site a)
           (and_from (a == a) true (itself site a) refl)
   block_of (tac.StorePart (Structure size) line x offset a m) ok at has homes =
-      let known = callees.runtime copy_place CopyTagged refl in
-      stored_structure p u P (runtime_number whole.code copy_place) known.0 known.1 read write whole.map c G low size x offset
-      (temporary_register c a) (first_free c) (homes (home_register c x) (inl refl))
-      (word site (tac.StorePart (Structure size) line x offset a m) a has (itself site a)) (own site)
+      let i = tac.StorePart (Structure size) line x offset a m in
+      structure_stored p u P read write whole.map c G low (runtime_number whole.code) (has_area whole.code c a) size x
+      offset (temporary_register c a) (first_free c) (callees.runtime copy_place CopyTagged refl)
+      (callees.runtime put_area_place PutArea refl) (homes (home_register c x) (inl refl))
+      (tagged_in site i a at has (itself site a) (and_from (a == a) true (itself site a) refl)) (own site)
   block_of (tac.StorePart kind line x offset a m) ok at has homes = stopped site (Abort 1) [] tt
   block_of (tac.StoreText k x offset m) ok at has homes =
       stored_text p u P read write whole.map c G low (text_in whole.code k) x offset (first_free c)

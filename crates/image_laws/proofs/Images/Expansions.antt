@@ -140,7 +140,7 @@ module _ (p : Program) (budgets : BudgetSizes) (valid : is_valid_program p ≡ t
       (expanded : (e : Expansion) (homes : CodeFunction → List ℕ) (runtime : List FlatFunction)
       → AreOfRuntime e.map entry (Good e.map) runtime_list runtime
       → HaveTypeKeys e.code.functions e.types → AreAllClosed e.code e.entries
-      → ((u : ℕ) (k : CodeFunction) → slice_get e.code.functions u ≡ Some k → AreKept k (e.contents u))
+      → ((u : ℕ) (k : CodeFunction) → slice_get e.code.functions u ≡ Some k → AreKept e.code k (e.contents u))
       → IsExpanded (layout_of e homes runtime) entry (Good e.map))
       (local : (z : MapSizes) (a b : Bytes) → AreMapped z → KeepsShadow z a b → Good z a
       → Good z b × ((w : ℕ) → IsObjectWord z w → entry b w ≡ entry a w)) where
@@ -162,6 +162,7 @@ module _ (p : Program) (budgets : BudgetSizes) (valid : is_valid_program p ≡ t
       before = before;
       results = refl;
       headers = headers;
+      areas = h.is_expansion.areas;
     }
 
     module _ (source : (input : List ℕ) → IsSource (meaning p m.budgets input))

@@ -27,6 +27,7 @@ use Rattle.metadata_relation.specs.Laid.{function_of, program_of, layout_of}
 use Rattle.metadata_relation.specs.Stages.{Compiled}
 use Rattle.metadata_relation.specs.StartData.{entries_of_statics, bytes_of_statics}
 use Rattle.metadata_relation.specs.Steps.{AreAllCovered}
+use Rattle.metadata_relation.specs.Structures.{HaveAreas}
 use Rattle.flat_propagation.specs.Propagated.{propagated}
 use Rattle.reg_plan.specs.declared.plan.FunctionPlan.{FunctionPlan}
 use Rattle.reg_plan.specs.Planned.{IsPlannable}
@@ -37,7 +38,7 @@ use Rattle.rv_codegen.specs.MachineImages.Image.{IsImage}
 use Rattle.image_laws.specs.Plans.Instructions.{IsWhole}
 
 -- An expansion under a form of the shadow space that reads and writes entries by these lists: its keys of functions tell
--- their types, and what has an entry or may have contents is closed.
+-- their types, what has an entry or may have contents is closed, and functions have room for their structures by value.
 pub record IsExpansion (read write : EntryCode) (map : MapSizes) (expansion : Expansion) : Type 0 where
   pub inline : expansion.inline ≡ inline_lists read write map
   pub map_is : expansion.map ≡ map
@@ -45,7 +46,8 @@ pub record IsExpansion (read write : EntryCode) (map : MapSizes) (expansion : Ex
   pub low : (f : ℕ) → expansion.types f < 2 ^ 63
   pub entries : AreAllClosed expansion.code expansion.entries
   pub contents : (u : ℕ) (c : CodeFunction) → slice_get expansion.code.functions u ≡ Some c
-      → AreKept c (expansion.contents u)
+      → AreKept expansion.code c (expansion.contents u)
+  pub areas : HaveAreas expansion.code
 
 -- an expansion that is laid, with homes of virtual registers and the functions of the runtime
 pub record Laid : Type 0 where

@@ -75,7 +75,7 @@ abbrev pub entered_registers : CodeFunction → (entered : List Variable) → Li
 entered_registers c vs = top_register c vs ∷ homes_from c 0 vs
 
 -- Those of the temporary that gets a value, of which the next node tells whether it has an entry there, and those of a
--- block that is entered. The functions that make bytes zero and move a structure give a status, which nothing reads.
+-- block that is entered. The functions that make bytes zero and move structures give a status, which nothing reads.
 abbrev pub made_registers : Expansion → (function : ℕ) → CodeFunction → Instruction → List ℕ
 made_registers e u c (tac.Constant d w m) = value_of (e.entries u m d) (temporary_register c d)
 made_registers e u c (tac.FunctionPointer d f m) = value_of (e.entries u m d) (temporary_register c d)

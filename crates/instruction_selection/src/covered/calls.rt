@@ -15,8 +15,8 @@ use crate::covered::Coverage;
 use crate::covered::instructions::{can_be_entered, is_no_aggregate};
 use crate::formats::pieces_of;
 use crate::initializers::text_of;
-use c_tree::Variable;
 use c_tree::format::Piece;
+use c_tree::{Kind, Variable};
 use std::alloc::{AllocError, Global};
 use tac_ir::{CodeFunction, Instruction, Tac};
 
@@ -168,6 +168,11 @@ pub(crate) fn admits(
     ensures { IfOk result (λ yes. yes ≡ admits_in coverage.now.program.now function.now instruction.now) }
 {
     match instruction {
+        Instruction::ZeroOf {
+            kind: Kind::Structure(_),
+            ..
+        }
+        | Instruction::Take { .. } => Ok(false),
         Instruction::Print { text, .. } => has_format_of_bytes(coverage, *text),
         Instruction::Call { function, .. } => Ok(is_scalar_callee(coverage, *function)),
         Instruction::CallThrough { type_number, .. } => {

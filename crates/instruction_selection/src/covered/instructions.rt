@@ -8,7 +8,7 @@ ghost use Rattle.tac_ir.specs.Fitting.{is_word};
 ghost use Rattle.tac_ir.specs.Meaning.{objects_in};
 ghost use Rattle.lib_wrappers.specs.AllocatingRoutines.Entering.{block_bytes};
 ghost use Rattle.metadata_plan.specs.Registers.{all_variables};
-ghost use Rattle.metadata_relation.specs.Steps.{is_no_aggregate, is_no_structure, is_update_by_word, is_settled, is_few};
+ghost use Rattle.metadata_relation.specs.Steps.{is_no_aggregate, is_sized as has_bytes, is_update_by_word, is_settled, is_few};
 ghost use Rattle.metadata_relation.specs.Steps.{is_part, are_sized, can_be_entered, covers, is_scalar_type};
 ghost use Rattle.instruction_selection.specs.Covered.{is_tested, is_access};
 
@@ -55,13 +55,13 @@ pub(crate) fn is_no_aggregate(kind: Kind) -> bool
     }
 }
 
-// Whether a kind is not that of a structure.
-fn is_no_structure(kind: Kind) -> bool
-    ensures { result ≡ is_no_structure kind }
+// Whether a kind that is that of a structure has a byte.
+fn has_bytes(kind: Kind) -> bool
+    ensures { result ≡ has_bytes kind }
 {
     match kind {
         Kind::Void | Kind::Scalar(_) | Kind::Array(_) => true,
-        Kind::Structure(_) => false,
+        Kind::Structure(size) => 1 <= size,
     }
 }
 
@@ -123,7 +123,11 @@ fn covers_tested(instruction: &Instruction) -> bool
     ensures { (k : CodeFunction) → is_tested instruction.now ≡ true → result ≡ covers k instruction.now }
 {
     match instruction {
-        Instruction::ZeroOf { kind, .. } => is_no_structure(*kind),
+        Instruction::ZeroOf { kind, .. } => has_bytes(*kind),
+        Instruction::Take {
+            kind: Kind::Structure(size),
+            ..
+        } => 1 <= *size,
         Instruction::Offset { size, .. } => is_word(*size),
         Instruction::Judge { size, .. } => 1 <= *size && is_word(*size),
         Instruction::Case { word, .. } => is_word(*word),
@@ -215,6 +219,7 @@ pub(crate) fn covers(
         | Instruction::Update { .. }
         | Instruction::StorePart { .. } => Ok(covers_access(instruction)),
         Instruction::ZeroOf { .. }
+        | Instruction::Take { .. }
         | Instruction::Offset { .. }
         | Instruction::Judge { .. }
         | Instruction::Case { .. }
@@ -222,7 +227,7 @@ pub(crate) fn covers(
         | Instruction::Difference { .. }
         | Instruction::Narrow { .. }
         | Instruction::Member { .. } => Ok(covers_tested(instruction)),
-        Instruction::Reserved | Instruction::Take { .. } => Ok(false),
+        Instruction::Reserved => Ok(false),
         _ => Ok(true),
     }
 }

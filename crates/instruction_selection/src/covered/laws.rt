@@ -2,6 +2,7 @@
 
 ghost use Rattle.std.specs.Prelude.{◌≡◌, ℕ};
 ghost use Rattle.tac_ir.specs.declared.function.CodeFunction.{CodeFunction};
+ghost use Rattle.tac_ir.specs.declared.function.Tac.{Tac};
 ghost use Rattle.metadata_relation.specs.Contents.{AreKept};
 ghost use Rattle.metadata_relation.specs.Stages.{Compiled};
 ghost use Rattle.metadata_relation.specs.Steps.{AreAllCovered};
@@ -15,5 +16,5 @@ pub fn programs_of_covered_code_are_covered()
 
 /// Where no temporary has contents, that is kept by every function.
 pub fn no_contents_are_kept()
-    ensures { (u : ℕ) (k : CodeFunction) → AreKept k (no_contents u) }
+    ensures { (t : Tac) (u : ℕ) (k : CodeFunction) → AreKept t k (no_contents u) }
 {}

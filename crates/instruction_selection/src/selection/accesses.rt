@@ -24,6 +24,7 @@ fn put_assigned<S: ShadowForm>(
     code: &mut Vec<FlatInstruction>,
     context: &FunctionContext,
     kind: Kind,
+    has_area: bool,
     with_entry: bool,
     registers: WriteRegisters,
 ) -> Result<(), AllocError>
@@ -34,11 +35,13 @@ fn put_assigned<S: ShadowForm>(
     requires room { registers.scratch + 16 ≤ 2 ^ 31 }
     ensures { OnOk result (code.new.items ≡ code.old.items
         ++ assigned_code (inline_lists S.entry_read S.entry_write context.now.map.now) context.now.program.now kind
-        with_entry registers.into registers.pointer registers.value registers.scratch) }
+        has_area with_entry registers.into registers.pointer registers.value registers.scratch) }
 {
     match kind {
         Kind::Scalar(scalar) => put_write::<S>(code, context, scalar, with_entry, registers),
-        Kind::Structure(size) => put_structure_write(code, context, size, with_entry, registers),
+        Kind::Structure(size) => {
+            put_structure_write(code, context, size, has_area, with_entry, registers)
+        }
         Kind::Void | Kind::Array(_) => {
             put(code, FlatInstruction::End(Ending::Abort(Line::first())))
         }
@@ -113,7 +116,8 @@ pub fn put_access<S: ShadowForm>(
                 value: context.temporary(*value),
                 scratch: context.free(),
             };
-            put_assigned::<S>(code, context, *kind, with_entry, registers)
+            let has_area = context.has_area(*value);
+            put_assigned::<S>(code, context, *kind, has_area, with_entry, registers)
         }
         Instruction::Update { .. } => put_updated::<S>(code, context, instruction, with_entry),
         Instruction::Judge {

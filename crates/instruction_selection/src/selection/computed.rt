@@ -1,46 +1,21 @@
-//! Values computed from others: zeros, conversions and operators (C99 6.3, 6.5).
+//! Values computed from others: conversions and operators (C99 6.3, 6.5).
 
 ghost use Rattle.std.specs.Prelude.{◌≡◌, ◌+◌, ◌<◌, ◌≤◌, ◌^◌, ◌++◌, true, OnOk};
 ghost use Rattle.shadow_space.specs.Form.{EntryCode};
-ghost use Rattle.std.specs.Prelude.{◌∷◌, []};
-ghost use Rattle.flat_code.specs.declared.instruction.FlatInstruction.TheVariants.{End};
-ghost use Rattle.sb_base.specs.declared.ending.Ending.TheVariants.{Abort};
 ghost use Rattle.instruction_selection.specs.Contexts.{IsPrepared};
 ghost use Rattle.instruction_selection.specs.Registers.{IsAmong};
-ghost use Rattle.instruction_selection.specs.Selected.{is_computed, selected, zero_of_code};
+ghost use Rattle.instruction_selection.specs.Selected.{is_computed, selected};
 
 use crate::context::FunctionContext;
 use crate::entries::put_untagged;
-use crate::list::put;
 use crate::values::put_converted;
-use c_tree::Kind;
 use flat_code::FlatInstruction;
 use flat_operators::binary::{Registers, put_binary};
 use flat_operators::unary::put_unary;
-use sb_base::{Ending, Line};
 use std::alloc::AllocError;
 use tac_ir::Instruction;
 
-// Puts a 0 of a kind behind a list.
-fn put_zero(
-    code: &mut Vec<FlatInstruction>,
-    kind: Kind,
-    with_entry: bool,
-    into: u32,
-) -> Result<(), AllocError>
-    requires { into ≤ 2 ^ 31 }
-    ensures { OnOk result (code.new.items ≡ code.old.items ++ zero_of_code kind with_entry into) }
-{
-    match kind {
-        Kind::Structure(_) => put(code, FlatInstruction::End(Ending::Abort(Line::first()))),
-        Kind::Void | Kind::Scalar(_) | Kind::Array(_) => {
-            put(code, FlatInstruction::Constant { into, value: 0 })?;
-            put_untagged(code, with_entry, into)
-        }
-    }
-}
-
-/// Puts the code of a zero, a conversion or an operator behind a list. It fails only for want of memory.
+/// Puts the code of a conversion or an operator behind a list. It fails only for want of memory.
 pub fn put_computed(
     code: &mut Vec<FlatInstruction>,
     context: &FunctionContext,
@@ -53,11 +28,6 @@ pub fn put_computed(
         ++ selected read write context.now with_entry instruction.now) }
 {
     match instruction {
-        Instruction::ZeroOf { kind, to, .. } => {
-            let into = context.temporary(*to);
-            let _room = context.free();
-            put_zero(code, *kind, with_entry, into)
-        }
         Instruction::Convert { kind, to, from, .. } => {
             let into = context.temporary(*to);
             let from = context.temporary(*from);

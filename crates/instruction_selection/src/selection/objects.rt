@@ -60,8 +60,9 @@ pub fn put_of_objects<S: ShadowForm>(
             from,
             ..
         } => {
+            let has_area = context.has_area(*from);
             let from = context.temporary(*from);
-            put_part::<S>(code, context, *kind, *variable, *offset, from)
+            put_part::<S>(code, context, *kind, has_area, *variable, *offset, from)
         }
         Instruction::StoreText {
             text,

@@ -20,7 +20,8 @@ pub fn laid_programs_are_expanded<S: ShadowForm>()
     ensures { (e : Expansion) (homes : CodeFunction → List ℕ) (runtime : List FlatFunction)
         → AreOfRuntime e.map S.entry (S.IsGood e.map) runtime_list runtime
         → HaveTypeKeys e.code.functions e.types → AreAllClosed e.code e.entries
-        → ((u : ℕ) (c : CodeFunction) → slice_get e.code.functions u ≡ Some c → AreKept c (e.contents u))
+        → ((u : ℕ) (c : CodeFunction) → slice_get e.code.functions u ≡ Some c
+        → AreKept e.code c (e.contents u))
         → IsExpanded (layout_of e homes runtime) S.entry (S.IsGood e.map) }
 {}
 

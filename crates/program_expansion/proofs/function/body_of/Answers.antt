@@ -12,13 +12,13 @@ entry_table-requires g c =
 pub is_short-requires-clause-begins : goal.is_short-requires-clause-begins
 is_short-requires-clause-begins g c =
     prepared _ c.requires.registers c.requires.tables.statics c.requires.tables.low c.requires.tables.limits
-    c.requires.limits.small
+    c.requires.limits.small c.requires.areas
 
 pub is_short-requires-clause-can : goal.is_short-requires-clause-can
 is_short-requires-clause-can g c = record {
   by = λ n i at. (
     prepared _ c.requires.registers c.requires.tables.statics c.requires.tables.low c.requires.tables.limits
-        c.requires.limits.small,
+        c.requires.limits.small c.requires.areas,
     is_among _ _ n i c.requires.limits at,
   );
 }
@@ -26,13 +26,13 @@ is_short-requires-clause-can g c = record {
 pub put_body-requires-clause-begins : goal.put_body-requires-clause-begins
 put_body-requires-clause-begins g c =
     prepared _ c.requires.registers c.requires.tables.statics c.requires.tables.low c.requires.tables.limits
-    c.requires.limits.small
+    c.requires.limits.small c.requires.areas
 
 pub put_body-requires-clause-can : goal.put_body-requires-clause-can
 put_body-requires-clause-can g c = record {
   by = λ n i at. (
     prepared _ c.requires.registers c.requires.tables.statics c.requires.tables.low c.requires.tables.limits
-        c.requires.limits.small,
+        c.requires.limits.small c.requires.areas,
     is_among _ _ n i c.requires.limits at,
   );
 }

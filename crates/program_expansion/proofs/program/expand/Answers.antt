@@ -13,4 +13,4 @@ returns-clause-ok g c =
     let number : length c.as_slice.result.now + c.len.result
     ≡ length c.args.code.now.functions + length c.args.runtime.items = omega (arith, size, count) in
     whole_program g.S.ShadowForm.entry_read g.S.ShadowForm.entry_write c.args.map.now c.args.code.now h.types
-    c.in_ok-functions.functions.items h.functions c.args.runtime.items _ h.keys h.low (programs_same _ _ _ _ functions number)
+    c.in_ok-functions.functions.items h.functions c.args.runtime.items _ h.keys h.low h.limits (programs_same _ _ _ _ functions number)

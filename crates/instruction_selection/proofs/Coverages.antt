@@ -1,6 +1,6 @@
 -- The test says yes exactly where a program is covered.
-use Rattle.std.proofs.Common.{◌≡◌, ℕ, zero, suc, Bool, true, false, ◌&&◌, List, [], ◌∷◌, map, length, Option, Some, None}
-use Rattle.std.proofs.Common.{refl, sym, ap, ◌∙◌, subst, arith, true≢false}
+use Rattle.std.proofs.Common.{◌≡◌, ℕ, zero, suc, Bool, true, false, List, [], ◌∷◌, map, Some, None}
+use Rattle.std.proofs.Common.{refl, sym, ap, ◌∙◌, subst, true≢false}
 use Rattle.std.specs.Prelude.{not, ◌||◌, ◌==◌, slice_get}
 use Rattle.std.specs.List.{list_all}
 use Rattle.std.proofs.lemmas.Bool.{and_parts, and_from, or_right}
@@ -12,7 +12,7 @@ use Rattle.tac_ir.specs.declared.function.Tac.{Tac}
 use Rattle.tac_ir.specs.Meaning.{function_in}
 use Rattle.metadata_relation.specs.Stages.{Compiled}
 use Rattle.metadata_relation.specs.Steps.{covers, admits, gives_scalar, is_scalar_call, are_scalar_calls, is_scalar_main}
-use Rattle.metadata_relation.specs.Steps.{CoversMain, AreAllCovered}
+use Rattle.metadata_relation.specs.Steps.{AreAllCovered}
 use Rattle.instruction_selection.specs.Covered.{no_contents, admits_with, IsCoveredCode, admits_in, is_covered_in}
 use Rattle.instruction_selection.specs.Covered.{is_covered_function, is_covered_code, is_scalar_function, scalar_functions}
 

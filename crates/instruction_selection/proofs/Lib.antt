@@ -1,10 +1,10 @@
-pub mod StructureAreas
 pub mod BlockObjects
 pub mod Coverages
 pub mod FormatSteps
 pub mod FormatScans
 pub mod Joined
 pub mod Lists
+pub mod MadeValues
 pub mod Operands
 pub mod OneEntry
 pub mod PlainTypes
@@ -12,6 +12,7 @@ pub mod Ranges
 pub mod Regions
 pub mod Routines
 pub mod StaticPlaces
+pub mod StructureAreas
 pub mod StructureLists
 pub mod TypeKeys
 pub mod StartBytes

@@ -1,7 +1,8 @@
 -- The areas of a function's temporaries, as they are counted.
 use Rattle.std.proofs.Common.{◌≡◌, ◌≢◌, ℕ, zero, suc, ◌+◌, ◌-◌, ◌*◌, ◌%◌, ◌^◌, ◌<◌, ◌≤◌, max, Bool, true, false, List, []}
 use Rattle.std.proofs.Common.{◌∷◌, ◌++◌, drop, length, get_or, if◌then◌else◌, refl, sym, ap, ◌∙◌, subst, arith}
-use Rattle.std.specs.Prelude.{nat_le, nat_lt, ◌==◌, replicate, slice_get, slice_set, Some}
+use Rattle.std.specs.Prelude.{nat_le, nat_lt, ◌==◌, replicate, slice_get, slice_set, IfOk, MatchOption, Option, Some, None}
+use Rattle.std.specs.Prelude.{Result, Ok, Err}
 use Rattle.std.proofs.lemmas.Bool.{eqb-true, eqb-false, leb-false, leb-true, le-ltb, lt-ltb, ltb-false, ltb-true}
 use Rattle.std.proofs.lemmas.List.{drop_more, get_or-set_same, get_or-set_other}
 use Rattle.std.proofs.lemmas.Option.{get_or_from_slice_get}
@@ -29,7 +30,7 @@ same_put d size kind e i = ap (λ n. if d == i then n else 0) (sym e)
 pub nothing_put : (i : ℕ) → 0 ≡ put_by (record { to = 0; size = 0 }) i
 nothing_put i = by (0 == i)
   where
-    by : (b : Bool) → 0 ≡ (if b then 0 else 0)
+    by : (b : Bool) → ◌≡◌ {A = ℕ} 0 (if b then 0 else 0)
     by true = refl
     by false = refl
 
@@ -157,6 +158,22 @@ pushed f (m ∷ ns) n (suc i) long is before (suc j) low =
     pushed (λ k. f (suc k)) ns n i (omega (arith, long)) is (λ k lt. before (suc k) (omega (arith, lt))) j
     (omega (arith, low))
 
+pub no_room : (ns : List ℕ) (room sum i : ℕ) → i < length ns → sum ≡ sum_before ns i
+    → room < 5 * (sum + get_or ns i 0) → room < 5 * sum_before ns (length ns)
+no_room ns room sum i low so over =
+    let more = sum_more ns i low in
+    let less = sum_grows ns (i + 1) in
+    omega (arith, more, less, so, over)
+
+-- all sums are there, the last of them behind the others
+pub all_sums : (ns : List ℕ) (room sum i : ℕ) (before after : List ℕ) → i ≡ length ns → length before ≡ i
+    → sum ≡ sum_before ns i → 5 * sum ≤ room → ((j : ℕ) → j < i → get_or before j 0 ≡ sum_before ns j)
+    → after ≡ before ++ sum ∷ [] → AreSumsOf after ns room
+all_sums ns room sum i before after all long so fit each e = record {
+  each = λ j le. ap (λ xs. get_or xs j 0) e ∙ pushed (sum_before ns) before sum i long so each j (omega (arith, le, all));
+  fit = let last : sum_before ns i ≡ sum_before ns (length ns) = ap (sum_before ns) all in omega (arith, last, so, fit);
+}
+
 -- ---- a function
 
 -- no instruction puts a structure behind the last temporary
@@ -193,23 +210,24 @@ greatest_past t (j ∷ js) i le =
 
 below_past : (t : Tac) (js : List Instruction) (n : ℕ) → structures_below t js n ≤ structures_below t js (most_temporaries js)
 below_past t js zero = omega arith
-below_past t js (suc n) = by (nat_lt n (most_temporaries js)) refl
+below_past t js (suc n) = by (nat_lt n (most_temporaries js)) refl (below_past t js n)
   where
-    most : (k d : ℕ) → structures_below t js k ≤ structures_below t js (d + k)
-    most k zero = omega arith
-    most k (suc d) = let rest = most k d in omega (arith, rest)
+    most : (d k m : ℕ) → m ≡ k + d → structures_below t js k ≤ structures_below t js m
+    most zero k m e =
+        let same : k ≡ m = omega (arith, e) in
+        subst (λ z. structures_below t js k ≤ structures_below t js z) same (omega arith)
+    most (suc d) k zero e = absurd (omega (arith, e))
+    most (suc d) k (suc m) e = let rest = most d k m (omega (arith, e)) in omega (arith, rest)
 
     by : (b : Bool) → nat_lt n (most_temporaries js) ≡ b
+        → structures_below t js n ≤ structures_below t js (most_temporaries js)
         → structures_below t js (suc n) ≤ structures_below t js (most_temporaries js)
-    by true e =
+    by true e rest =
         let lt = ltb-true n (most_temporaries js) e in
-        let sum : most_temporaries js - suc n + suc n ≡ most_temporaries js = omega (arith, lt) in
-        subst (λ z. structures_below t js (suc n) ≤ structures_below t js z) sum
-        (most (suc n) (most_temporaries js - suc n))
-    by false e =
+        most (most_temporaries js - suc n) (suc n) (most_temporaries js) (omega (arith, lt))
+    by false e rest =
         let ge = ltb-false n (most_temporaries js) e in
         let none = greatest_past t js n (omega (arith, ge)) in
-        let rest = below_past t js n in
         omega (arith, none, rest)
 
 -- the sums of the greatest structures are where areas begin
@@ -224,7 +242,7 @@ sums_are t js ns count h (suc i) le =
     let own = h.each i (omega (arith, le)) in
     ap (sum_before ns) (sym next) ∙ more ∙ omega (arith, rest, own)
 
-pub has_table : (t : Tac) (c : CodeFunction) (ns table : List ℕ) (count : ℕ) → c.room % 8 ≡ 0
+has_table : (t : Tac) (c : CodeFunction) (ns table : List ℕ) (count : ℕ) → c.room % 8 ≡ 0
     → count ≡ most_temporaries c.code → AreGreatest ns count t c.code → AreSumsOf table ns c.room → HasTable table t c
 has_table t c ns table count whole most h s =
     let all = sums_are t c.code ns count h count (omega arith) in
@@ -243,7 +261,7 @@ has_table t c ns table count whole most h s =
       };
     }
 
-pub has_no_room : (t : Tac) (c : CodeFunction) (ns : List ℕ) (count : ℕ) → AreGreatest ns count t c.code
+has_no_room : (t : Tac) (c : CodeFunction) (ns : List ℕ) (count : ℕ) → AreGreatest ns count t c.code
     → c.room < 5 * sum_before ns (length ns) → HasAreas t c → ⊥
 has_no_room t c ns count h less areas =
     let all = sums_are t c.code ns count h count (omega arith) in
@@ -251,6 +269,14 @@ has_no_room t c ns count h less areas =
     let length_is : sum_before ns (length ns) ≡ sum_before ns count = ap (sum_before ns) long in
     let fit = areas.fit count in
     absurd (omega (arith, less, all, length_is, fit))
+
+pub found_areas : {V E : Type 0} (r : Result (Option V) E) (items : V → List ℕ) (t : Tac) (c : CodeFunction)
+    (ns : List ℕ) (count : ℕ) → c.room % 8 ≡ 0 → count ≡ most_temporaries c.code → AreGreatest ns count t c.code
+    → IfOk r (λ found. MatchOption found (c.room < 5 * sum_before ns (length ns)) (λ v. AreSumsOf (items v) ns c.room))
+    → IfOk r (λ found. MatchOption found (HasAreas t c → ⊥) (λ v. HasTable (items v) t c))
+found_areas (Ok None) items t c ns count whole most h s = has_no_room t c ns count h s
+found_areas (Ok (Some v)) items t c ns count whole most h s = has_table t c ns (items v) count whole most h s
+found_areas (Err e) items t c ns count whole most h s = s
 
 pub is_not_whole : (t : Tac) (c : CodeFunction) → c.room % 8 ≢ 0 → HasAreas t c → ⊥
 is_not_whole t c other areas = other areas.whole

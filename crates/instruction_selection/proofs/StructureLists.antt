@@ -1,5 +1,5 @@
 -- Lists of which one is run: how long they are, and what stands behind them.
-use Rattle.std.proofs.Common.{◌≡◌, ℕ, ◌+◌, ◌^◌, ◌<◌, ◌≤◌, Bool, List, [], ◌∷◌, ◌++◌, length, length-append}
+use Rattle.std.proofs.Common.{◌≡◌, ℕ, ◌+◌, ◌^◌, ◌<◌, Bool, List, [], ◌∷◌, ◌++◌, length, length-append}
 use Rattle.std.proofs.Common.{ap, ◌∙◌, arith, append_assoc}
 use Rattle.rv_isa.specs.declared.instruction.BranchOp.TheVariants.{Bne}
 use Rattle.addr_map.specs.Places.{MapSizes}
@@ -42,11 +42,18 @@ place_short number size a s list e =
     omega (arith, counted, few, same)
 
 -- lists that are those of two others
-pub either_put : (r q : ℕ) (before xs ys : List FlatInstruction) {as bs after : List FlatInstruction} → q ≡ r
-    → as ≡ xs → bs ≡ ys → after ≡ before ++ either_code q as bs → after ≡ before ++ either_code r xs ys
-either_put r q before xs ys same first second put =
-    put ∙ ap (λ n. before ++ either_code n _ _) same ∙ ap (λ is. before ++ either_code r is _) first
-    ∙ ap (λ is. before ++ either_code r xs is) second
+pub either_put : (r q : ℕ) (before xs ys : List FlatInstruction) {first second after : List FlatInstruction} → q ≡ r
+    → first ≡ xs → second ≡ ys → after ≡ before ++ either_code q first second
+    → after ≡ before ++ either_code r xs ys
+either_put r q before xs ys {first} {second} {after} same e f put =
+    put
+    ∙ (ap (λ n. before ++ either_code n first second) same
+    ∙ (ap (λ is. before ++ either_code r is second) e ∙ ap (λ is. before ++ either_code r xs is) f))
+
+-- a list that is put behind nothing
+pub behind_nothing : (before xs : List FlatInstruction) {after : List FlatInstruction} → before ≡ [] → after ≡ before ++ xs
+    → after ≡ xs
+behind_nothing before xs none put = put ∙ ap (λ is. is ++ xs) none
 
 -- what stands behind both of two lists stands behind the second
 either_behind : (r : ℕ) (xs ys rest : List FlatInstruction)

@@ -1,8 +1,7 @@
 -- Which programs are covered, over their code and the contents of temporaries alone.
 use Rattle.std.specs.Prelude.{◌≡◌, ℕ, Bool, true, false, ◌&&◌, List, map, Some, slice_get}
 use Rattle.std.specs.List.{list_all}
-use Rattle.c_tree.specs.declared.expression.Kind.{Kind}
-use Rattle.c_tree.specs.declared.expression.Kind.TheVariants.{Void, Scalar as OfScalar, Structure, Array}
+use Rattle.c_tree.specs.declared.expression.Kind.TheVariants.{Structure}
 use Rattle.c_tree.specs.Format.{pieces}
 use Rattle.source_meaning.specs.Printing.{pieces_or_none}
 use Rattle.tac_ir.specs.declared.instruction.Instruction.{Instruction}

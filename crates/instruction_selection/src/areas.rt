@@ -133,7 +133,6 @@ fn greatest_structures(
 }
 
 // The sums of numbers before each, and of all, where five times that is no more than some room.
-#[tactic(auto, using(crate::proofs::StructureAreas::sum_more, crate::proofs::StructureAreas::pushed, crate::proofs::StructureAreas::sum_within))]
 fn sums_within(alloc: Global, numbers: &[u128], room: u64) -> Result<Option<Vec<u64>>, AllocError>
     requires { (i : ℕ) → get_or numbers.now i 0 ≤ 2 ^ 65 }
     ensures { IfOk result (λ found. MatchOption found (room < 5 * sum_before numbers.now (length numbers.now))
@@ -154,7 +153,7 @@ fn sums_within(alloc: Global, numbers: &[u128], room: u64) -> Result<Option<Vec<
 
 /// The bytes of the structures of the temporaries before each one, and before all, where what the calls are charged for
 /// the function has room for them. It fails only for want of memory.
-#[tactic(auto, using(crate::proofs::StructureAreas::has_table, crate::proofs::StructureAreas::has_no_room, crate::proofs::StructureAreas::is_not_whole))]
+#[tactic(auto, using(crate::proofs::StructureAreas::is_not_whole))]
 pub fn structure_areas(
     alloc: Global,
     program: &Tac,

@@ -172,6 +172,7 @@ module _ (p : FlatProgram) (u : ℕ) (P : Registers) where
       third : (y : ℕ) → IsOneOf ((s + 3) ∷ []) y
           → IsOneOf ((s + 2 + 1) ∷ (s + 2 + 2) ∷ (s + 2 + 3) ∷ (s + 2 + 4) ∷ (s + 7) ∷ []) y
       third y (inl e) = inl (omega (arith, e))
+      third y (inr none) = elim none [ ]
 
   put_some : (number : ℕ → ℕ) (area : Bool) (a size s : ℕ) → 0 < length (put_code operators number area a size s)
   put_some number false a size s = omega arith

@@ -70,7 +70,7 @@ use Rattle.metadata_relation.specs.Blocks.{status_code, pack, objects_of_body, l
 use Rattle.metadata_relation.specs.Blocks.{zeros}
 use Rattle.metadata_relation.specs.Blocks.{zero_variables, store_parameter, store_parameters, enter_body, prologue}
 use Rattle.metadata_relation.specs.Steps.{have_bytes}
-use Rattle.metadata_relation.specs.Structures.{copy_code}
+use Rattle.metadata_relation.specs.Structures.{has_area, put_code}
 use Rattle.image_laws.specs.Encoding.Fitting.{AreFit, FitEntries, HasShortPlaces, HasWords, FitsFunction, FitsCode}
 use Rattle.image_laws.specs.Encoding.Fitting.{moved_by}
 use Rattle.image_laws.proofs.Encoding.Parts.{fit_append, lifted, constant_fit, conversion_fit, short, untagged_fit}
@@ -79,7 +79,8 @@ use Rattle.image_laws.proofs.Encoding.Parts.{entry_fit, constants_fit, number_fi
 use Rattle.image_laws.proofs.Encoding.Parts.{difference_fit}
 use Rattle.image_laws.proofs.Encoding.Parts.{narrow_fit, load_fit, store_fit, new_integer_fit, new_address_fit}
 use Rattle.image_laws.proofs.Encoding.Parts.{left_fit}
-use Rattle.image_laws.proofs.Encoding.Parts.{status_fit, pack_fit, unpack_fit, fit_if, part_fit, bytes_fit, copy_fit}
+use Rattle.image_laws.proofs.Encoding.Parts.{status_fit, pack_fit, unpack_fit, fit_if, part_fit, bytes_fit, put_fit}
+use Rattle.image_laws.proofs.Encoding.Parts.{take_structure_fit, zero_structure_fit}
 use Rattle.image_laws.proofs.Encoding.Checks.{judge_fits}
 use Rattle.image_laws.proofs.Encoding.Calls.{call_fits, through_fits, enter_fits}
 use Rattle.image_laws.proofs.Images.Instructions as plain
@@ -316,7 +317,9 @@ module _ (whole : Expansion) (u : ℕ) (c : CodeFunction) (read write : EntryCod
       (constants_fit (whole.entries u m d) (held_from (temporary_register c d)).tag object.address
       (object.address + object.size) 1 (region_start whole.map Locks) (first_free c) (omega (arith, low))
       (omega (arith, low)) (omega arith) (omega (arith, lock)))
-  block_fits (tac.ZeroOf (Structure size) d m) words = abort 1 (omega arith)
+  block_fits (tac.ZeroOf (Structure size) d m) words =
+      zero_structure_fit whole.map places whole.code c number (whole.entries u m d) size d (temporary_register c d)
+      (first_free c) words.0 words.1
   block_fits (tac.ZeroOf kind d m) words =
       (short 0 (omega arith), untagged_fit (whole.entries u m d) (temporary_register c d))
   block_fits (tac.Convert kind d a m) words =
@@ -350,6 +353,9 @@ module _ (whole : Expansion) (u : ℕ) (c : CodeFunction) (read write : EntryCod
   block_fits (tac.Member offset size d a m) words =
       narrow_fits (whole.entries u m d) offset size (temporary_register c d) (temporary_register c a) (first_free c) words.0
       words.1
+  block_fits (tac.Take (Structure size) line d a m) words =
+      take_structure_fit whole.map places whole.code c number (whole.entries u m d) size d (temporary_register c d)
+      (temporary_register c a) (first_free c) words.0 words.1
   block_fits (tac.Take kind line d a m) words = abort 1 (omega arith)
   block_fits (tac.Read (OfScalar k) mode line key d a m) words =
       load_fits k (whole.entries u m d) (temporary_register c d) (temporary_register c a) (first_free c)
@@ -360,8 +366,9 @@ module _ (whole : Expansion) (u : ℕ) (c : CodeFunction) (read write : EntryCod
       (first_free c)
   block_fits (tac.Write (Structure size) mode line key d a b m) words = (
     tt,
-    fit_append (copy_code operators number (temporary_register c b) size (first_free c)) _
-        (copy_fit number (temporary_register c b) size (first_free c) words)
+    fit_append
+        (put_code operators number (has_area whole.code c b) (temporary_register c b) size (first_free c)) _
+        (put_fit number (has_area whole.code c b) (temporary_register c b) size (first_free c) words)
         (move_fit (whole.entries u m d) (temporary_register c d) (temporary_register c a)),
   )
   block_fits (tac.Write kind mode line key d a b m) words = abort 1 (omega arith)
@@ -373,7 +380,7 @@ module _ (whole : Expansion) (u : ℕ) (c : CodeFunction) (read write : EntryCod
       (store_fit read write whole.map entries (first_free c) (held_scalar k (temporary_register c a)) (first_free c + 1))
   block_fits (tac.StorePart (Structure size) line x offset a m) words =
       fit_append (part_address operators c x offset (first_free c)) _ (part_fit c x offset (first_free c) words.0)
-      (copy_fit number (temporary_register c a) size (first_free c) words.1)
+      (put_fit number (has_area whole.code c a) (temporary_register c a) size (first_free c) words.1)
   block_fits (tac.StorePart kind line x offset a m) words = abort 1 (omega arith)
   block_fits (tac.StoreText n x offset m) words =
       fit_append (part_address operators c x offset (first_free c)) _ (part_fit c x offset (first_free c) words.0)

@@ -1,8 +1,8 @@
 -- The lists of both forms of the shadow space, and the places of a map, are numbers that the machine has.
-use Rattle.std.proofs.Common.{inl, ℕ, ◌+◌, ◌-◌, ◌*◌, ◌/◌, ◌^◌, ◌<◌, ◌≤◌, arith, [], ◌∷◌, ◌++◌}
+use Rattle.std.proofs.Common.{inl, ℕ, ◌+◌, ◌-◌, ◌^◌, ◌<◌, ◌≤◌, arith, ◌∷◌, ◌++◌}
 use Rattle.addr_map.specs.declared.region.Region.{Region}
-use Rattle.addr_map.specs.declared.region.Region.TheVariants.{Stack, Locks, FreeLocks, Cells}
-use Rattle.addr_map.specs.Places.{MapSizes, AreMapped, object_space, region_end, spaces_begin, objects_begin}
+use Rattle.addr_map.specs.declared.region.Region.TheVariants.{Stack, Locks, FreeLocks, Cells, StructureValues}
+use Rattle.addr_map.specs.Places.{MapSizes, AreMapped, object_space, region_end}
 use Rattle.rv_isa.specs.declared.instruction.RegOp.TheVariants.{Add}
 use Rattle.rv_isa.specs.declared.instruction.BranchOp.TheVariants.{Beq, Bne}
 use Rattle.flat_code.specs.declared.instruction.RightOperand.TheVariants.{Register, Number}
@@ -22,6 +22,7 @@ short_places m mapped low =
     let free_locks = low FreeLocks in
     let cells = low Cells in
     let stack = low Stack in
+    let values = low StructureValues in
     let calls = mapped.budgets.calls.greatest in
     let keys = mapped.budgets.keys in
     record {
@@ -32,6 +33,7 @@ short_places m mapped low =
       stack_end = omega (arith, stack);
       calls = omega (arith, calls);
       keys = omega (arith, keys);
+      values = omega (arith, values);
     }
 
 load_fits : (t : ℕ) (e : Entry) → AreFit (load_entry t e)

@@ -1,9 +1,10 @@
 -- Parts of blocks are of instructions that the machine has.
-use Rattle.std.proofs.Common.{◌≡◌, inl, ℕ, ◌+◌, ◌-◌, ◌^◌, ◌<◌, refl, arith, Bool, true, false, List, [], ◌∷◌, ◌++◌}
+use Rattle.std.proofs.Common.{◌≡◌, inl, ℕ, ◌+◌, ◌-◌, ◌*◌, ◌^◌, ◌<◌, refl, arith, Bool, true, false, List, [], ◌∷◌, ◌++◌}
 use Rattle.std.proofs.Common.{Some, None, nat_lt}
 use Rattle.std.specs.Prelude.{◌==◌, if◌then◌else◌}
 use Rattle.std.proofs.lemmas.Bool.{ltb-true}
-use Rattle.addr_map.specs.Places.{MapSizes}
+use Rattle.addr_map.specs.declared.region.Region.TheVariants.{StructureValues}
+use Rattle.addr_map.specs.Places.{MapSizes, region_start}
 use Rattle.rv_isa.specs.declared.instruction.RegOp.{RegOp}
 use Rattle.obj_memory.specs.declared.int_type.IntType.{IntType}
 use Rattle.c_tree.specs.declared.expression.Update.{Update}
@@ -11,6 +12,8 @@ use Rattle.c_tree.specs.declared.expression.Update.TheVariants.{Arithmetic, Forw
 use Rattle.tac_ir.specs.declared.instruction.RightOperand.{RightOperand as Right}
 use Rattle.tac_ir.specs.declared.instruction.RightOperand.TheVariants.{Temporary, One}
 use Rattle.tac_ir.specs.declared.function.CodeFunction.{CodeFunction}
+use Rattle.tac_ir.specs.declared.function.Tac.{Tac}
+use Rattle.tac_ir.specs.Structures.{structures_below}
 use Rattle.flat_code.specs.declared.instruction.RightOperand.{RightOperand}
 use Rattle.flat_code.specs.declared.instruction.RightOperand.TheVariants.{Register, Number}
 use Rattle.flat_code.specs.declared.instruction.FlatInstruction.{FlatInstruction}
@@ -25,6 +28,7 @@ use Rattle.lib_wrappers.specs.declared.accesses.held.HeldScalar.{HeldScalar}
 use Rattle.lib_wrappers.specs.declared.accesses.held.HeldScalar.TheVariants.{Integer as HeldInteger}
 use Rattle.lib_wrappers.specs.declared.accesses.held.HeldScalar.TheVariants.{Pointer as HeldPointer}
 use Rattle.lib_wrappers.specs.AccessRoutines.Accessing.{load_code, store_code}
+use Rattle.lib_wrappers.specs.AreaRoutines.Areas.{whole_words}
 use Rattle.lib_wrappers.specs.AllocatingRoutines.Entering.{leave_code as leave_list}
 use Rattle.runtime_functions.specs.declared.status.ReturnStatus.{ReturnStatus}
 use Rattle.runtime_functions.specs.declared.status.ReturnStatus.TheVariants.{Completed}
@@ -35,7 +39,9 @@ use Rattle.metadata_relation.specs.Blocks.{untagged, move_value, move_entry_if, 
 use Rattle.metadata_relation.specs.Blocks.{number_operand}
 use Rattle.metadata_relation.specs.Blocks.{is_short, right_code, right_register, new_integer, new_address, write_top}
 use Rattle.metadata_relation.specs.Blocks.{status_tests, status_code, pack, unpack, part_address, store_bytes}
-use Rattle.metadata_relation.specs.Structures.{copy_code}
+use Rattle.metadata_relation.specs.Structures.{area_code, begin_area_code, bound_code, copy_code, hold_area}
+use Rattle.metadata_relation.specs.Structures.{move_area_place, part_call_code, put_area_place, put_code}
+use Rattle.metadata_relation.specs.Structures.{take_part_code, take_place_code, take_structure_code, zero_structure_code}
 use Rattle.machine_laws.specs.Blocks.Blocks.{IsShort, RightIsShort}
 use Rattle.image_laws.specs.Encoding.Fitting.{IsFit, AreFit, AreBytes, FitEntries, HasShortPlaces, moved_by}
 use Rattle.image_laws.proofs.Images.Instructions as plain
@@ -216,6 +222,63 @@ bytes_fit (b ∷ bs) a r low =
 pub copy_fit : (number : ℕ → ℕ) (a size s : ℕ) → size < 2 ^ 64 → AreFit (copy_code operators number a size s)
 copy_fit number a size s low =
     (tt, fit_append (constant_code (s + 2) size) _ (constant_fit (s + 2) size low) (tt, tt))
+
+-- ---- contents of structures
+
+-- a function of the runtime gets a part of contents
+part_call_fit : (f size a s : ℕ) → size < 2 ^ 64 → AreFit (part_call_code operators f size a s)
+part_call_fit f size a s low =
+    fit_append (constant_code (s + 1) size) _ (constant_fit (s + 1) size low)
+    (tt, (tt, (tt, (short 0 (omega arith), (short 0 (omega arith), (tt, tt))))))
+
+place_fit : (number : ℕ → ℕ) (size a s : ℕ) → size < 2 ^ 64 → AreFit (take_place_code operators number size a s)
+place_fit number size a s low =
+    (tt, fit_append (constant_code (s + 2) size) _ (constant_fit (s + 2) size low) (tt, tt))
+
+pub put_fit : (number : ℕ → ℕ) (area : Bool) (a size s : ℕ) → size < 2 ^ 64
+    → AreFit (put_code operators number area a size s)
+put_fit number false a size s low = copy_fit number a size s low
+put_fit number true a size s low = (
+  short 0 (omega arith),
+  fit_append (part_call_code operators (number put_area_place) size a s) _
+      (part_call_fit (number put_area_place) size a s low) (tt, copy_fit number a size s low),
+)
+
+hold_fit : (b : Bool) (d a e : ℕ) → AreFit (hold_area b d a e)
+hold_fit false d a e = (tt, tt)
+hold_fit true d a e = (tt, (tt, (tt, (short 0 (omega arith), (short 0 (omega arith), tt)))))
+
+module _ (m : MapSizes) (places : HasShortPlaces m) (t : Tac) (c : CodeFunction) where
+  begin_fit : (size i s : ℕ) → size < 2 ^ 63 → 5 * structures_below t c.code i < 2 ^ 63
+      → AreFit (begin_area_code operators m t c size i s)
+  begin_fit size i s low few =
+      let values = places.values in
+      let offset = region_start m StructureValues - c.room + 5 * structures_below t c.code i in
+      let bound = whole_words size in
+      fit_append (area_code operators m t c i s) _
+      (tt, fit_append (constant_code (s + 1) offset) _ (constant_fit (s + 1) offset (omega (arith, values, few))) (tt, tt))
+      (fit_append (bound_code operators size s (s + 1)) _
+      (fit_append (constant_code (s + 1) bound) _ (constant_fit (s + 1) bound (omega (arith, low))) (tt, tt)) (tt, tt))
+
+  pub zero_structure_fit : (number : ℕ → ℕ) (b : Bool) (size i d s : ℕ) → size < 2 ^ 63
+      → 5 * structures_below t c.code i < 2 ^ 63 → AreFit (zero_structure_code operators m t c number b size i d s)
+  zero_structure_fit number b size i d s low few =
+      fit_append (begin_area_code operators m t c size i s) _ (begin_fit size i s low few)
+      (fit_append (constant_code (s + 3) size) _ (constant_fit (s + 3) size (omega (arith, low)))
+      (tt, hold_fit b d s (s + 1)))
+
+  pub take_structure_fit : (number : ℕ → ℕ) (b : Bool) (size i d a s : ℕ) → size < 2 ^ 63
+      → 5 * structures_below t c.code i < 2 ^ 63 → AreFit (take_structure_code operators m t c number b size i d a s)
+  take_structure_fit number b size i d a s low few =
+      let part = take_part_code operators number size a (s + 2) in
+      let place = take_place_code operators number size a (s + 2) in
+      fit_append (begin_area_code operators m t c size i s) _ (begin_fit size i s low few) (
+        short 0 (omega arith),
+        fit_append part _ (part_call_fit (number move_area_place) size a (s + 2) (omega (arith, low))) (
+          tt,
+          fit_append place _ (place_fit number size a (s + 2) (omega (arith, low))) (hold_fit b d s (s + 1)),
+        ),
+      )
 
 -- ---- blocks left
 

@@ -1,8 +1,8 @@
 -- Which instructions the machine has, by their numbers, and what is asked of the code so that its expansion is of such.
-use Rattle.std.specs.Prelude.{◌≡◌, ℕ, ◌+◌, ◌-◌, ◌^◌, ◌<◌, ◌≤◌, Bool, true, false, List, [], ◌∷◌, length, Some}
+use Rattle.std.specs.Prelude.{◌≡◌, ℕ, ◌+◌, ◌-◌, ◌*◌, ◌^◌, ◌<◌, ◌≤◌, true, List, [], ◌∷◌, length, Some}
 use Rattle.std.specs.Prelude.{slice_get}
 use Rattle.sb_base.specs.Endings.{code_of}
-use Rattle.addr_map.specs.declared.region.Region.TheVariants.{Stack, Locks, FreeLocks, Cells}
+use Rattle.addr_map.specs.declared.region.Region.TheVariants.{Stack, Locks, FreeLocks, Cells, StructureValues}
 use Rattle.addr_map.specs.Places.{MapSizes, region_start, region_end, function_address}
 use Rattle.c_tree.specs.declared.expression.Kind.TheVariants.{Structure}
 use Rattle.c_tree.specs.declared.expression.Update.{Update}
@@ -15,6 +15,7 @@ use Rattle.tac_ir.specs.declared.instruction.Instruction.{Instruction}
 use Rattle.tac_ir.specs.declared.instruction.Instruction.TheVariants as tac
 use Rattle.tac_ir.specs.declared.function.CodeFunction.{CodeFunction}
 use Rattle.tac_ir.specs.Meaning.{function_in, objects_in, text_in}
+use Rattle.tac_ir.specs.Structures.{structures_below}
 use Rattle.flat_code.specs.declared.instruction.FlatInstruction.{FlatInstruction}
 use Rattle.flat_code.specs.declared.instruction.FlatInstruction.TheVariants as flat
 use Rattle.flat_code.specs.declared.function.FlatFunction.{FlatFunction}
@@ -51,7 +52,8 @@ pub record FitEntries (read write : EntryCode) (map : MapSizes) : Type 0 where
   pub reads : (at : ℕ) (into : Entry) (t : ℕ) → AreFit (read map at into t)
   pub writes : (at : ℕ) (from : Entry) (t : ℕ) → AreFit (write map at from t)
 
--- places of the runtime's spaces, and how much is charged, are numbers of an instruction; how many keys there are is a word
+-- Places of the runtime's spaces, and how much is charged, are numbers of an instruction; how many keys there are is a word,
+-- and where structures by value lie has 63 bits.
 pub record HasShortPlaces (map : MapSizes) : Type 0 where
   pub locks : region_start map Locks < 2 ^ 31 - 2 ^ 11
   pub free_locks : region_start map FreeLocks < 2 ^ 31 - 2 ^ 11
@@ -60,6 +62,7 @@ pub record HasShortPlaces (map : MapSizes) : Type 0 where
   pub stack_end : region_end map Stack + 1 < 2 ^ 31 - 2 ^ 11
   pub calls : map.budgets.calls + 1 < 2 ^ 31 - 2 ^ 11
   pub keys : map.budgets.keys < 2 ^ 64
+  pub values : region_start map StructureValues < 2 ^ 63
 
 -- ---- what is asked of the code
 
@@ -74,16 +77,21 @@ AreBytes [] = Unit {0}
 AreBytes (b ∷ bs) = (b < 256) × AreBytes bs
 
 -- Numbers are words, lines have 32 bits, and what stands in texts and formats is bytes. The objects of a block take a number
--- of bytes that is a word.
+-- of bytes that is a word. The bytes of a structure that is made, and those charged for the areas before its own, have
+-- 63 bits.
 abbrev pub HasWords : Expansion → CodeFunction → Instruction → Type 0
 HasWords e c (tac.Constant d w m) = w < 2 ^ 64
 HasWords e c (tac.FunctionPointer d f m) = (function_address f < 2 ^ 64) × (2 ^ 63 + e.types f < 2 ^ 64)
 HasWords e c (tac.UpdatePlain w k f line d x right m) = (moved_by w < 2 ^ 64) × (line < 2 ^ 32)
+HasWords e c (tac.ZeroOf (Structure size) d m) =
+    (size < 2 ^ 63) × (5 * structures_below e.code c.code d < 2 ^ 63)
 HasWords e c (tac.Binary op ty line d a b m) = line < 2 ^ 32
 HasWords e c (tac.Offset form size d a b m) = size < 2 ^ 64
 HasWords e c (tac.Difference size d a b m) = size < 2 ^ 64
 HasWords e c (tac.Narrow offset size d a m) = (offset < 2 ^ 64) × (size < 2 ^ 64)
 HasWords e c (tac.Member offset size d a m) = (offset < 2 ^ 64) × (size < 2 ^ 64)
+HasWords e c (tac.Take (Structure size) line d a m) =
+    (size < 2 ^ 63) × (5 * structures_below e.code c.code d < 2 ^ 63)
 HasWords e c (tac.Write (Structure size) mode line key d a b m) = size < 2 ^ 64
 HasWords e c (tac.Update w k f mode line at key d a right m) = (moved_by w < 2 ^ 64) × (at < 2 ^ 32)
 HasWords e c (tac.Judge test size line key a m) = (size < 2 ^ 64) × (line < 2 ^ 32)

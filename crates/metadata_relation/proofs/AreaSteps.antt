@@ -1,13 +1,11 @@
 -- What comes of a step that leaves contents in the area of a temporary: nothing else of memory changes.
-use Rattle.std.proofs.Common.{◌≡◌, ◌≢◌, ◌⊎◌, inl, inr, ⊎_elim, ℕ, suc, ◌+◌, ◌-◌, ◌*◌, ◌<◌, ◌≤◌, Bool, true, false}
-use Rattle.std.proofs.Common.{List, [], ◌∷◌, ◌++◌, length, length-append, Some, refl, sym, ◌∙◌, subst}
+use Rattle.std.proofs.Common.{◌≡◌, ◌≢◌, ◌⊎◌, inl, inr, ⊎_elim, ℕ, ◌+◌, ◌*◌, ◌<◌, ◌≤◌, Bool, true, false}
+use Rattle.std.proofs.Common.{List, length, Some, refl, sym, ◌∙◌, subst}
 use Rattle.std.proofs.Common.{arith, true≢false}
 use Rattle.std.specs.Prelude.{◌==◌, ◌^◌}
 use Rattle.std.proofs.lemmas.Bool.{eqb-false, ne_eqb}
 use Rattle.addr_map.specs.declared.region.Region.TheVariants.{StructureValues}
-use Rattle.addr_map.specs.Places.{AreMapped, MapSizes, region_end, region_size, region_start}
-use Rattle.rv_isa.specs.declared.instruction.RegOp.TheVariants.{Add}
-use Rattle.rv_isa.specs.Results.{reg_result, wrap}
+use Rattle.addr_map.specs.Places.{region_start}
 use Rattle.obj_memory.specs.Objects.{ObjectState}
 use Rattle.obj_memory.specs.Sound.{IsSoundObject}
 use Rattle.source_meaning.specs.State.{Rvalue, State}
@@ -17,39 +15,35 @@ use Rattle.tac_ir.specs.declared.instruction.Instruction.{Instruction}
 use Rattle.tac_ir.specs.declared.function.Tac.{Tac}
 use Rattle.tac_ir.specs.Edges.{LeadsTo}
 use Rattle.tac_ir.specs.Stage.{Frame, Stands, Temps, with_temp}
-use Rattle.tac_ir.specs.Structures.{greatest_structure, structures_below}
+use Rattle.tac_ir.specs.Structures.{greatest_structure}
 use Rattle.flat_code.specs.declared.instruction.FlatInstruction.{FlatInstruction}
-use Rattle.flat_code.specs.declared.instruction.FlatInstruction.TheVariants.{Move, Operate}
-use Rattle.flat_code.specs.declared.instruction.RightOperand.TheVariants.{Register}
-use Rattle.flat_code.specs.Calls.{charged, function_in, rooms}
+use Rattle.flat_code.specs.Calls.{function_in, rooms}
 use Rattle.flat_code.specs.Meaning.{body_of}
 use Rattle.flat_code.specs.Memory.{Bytes, KeepsBut, put}
 use Rattle.flat_code.specs.State as flat
 use Rattle.flat_code.specs.Words.{HasWords}
 use Rattle.flat_code.proofs.Stored.{load_kept, put_other, put_same}
 use Rattle.flat_code.specs.Routines.Routine.{HasAt}
-use Rattle.flat_code.proofs.Routines.Steps.{has_back, has_front}
 use Rattle.flat_actions.specs.Actions.{IsFor}
 use Rattle.flat_actions.proofs.Standing.{for_worked}
 use Rattle.lib_wrappers.specs.AreaRoutines.Areas.{area_bytes, entries_begin, HoldsPart, IsArea, IsAreaPlace}
-use Rattle.lib_wrappers.specs.AreaRoutines.Areas.{whole_words}
 use Rattle.runtime_functions.specs.Library.{held_from}
 use Rattle.metadata_plan.specs.Entries.{given}
 use Rattle.metadata_plan.specs.Expanded.{Leads}
 use Rattle.metadata_plan.specs.Registers.{most_temporaries}
-use Rattle.metadata_plan.proofs.Flat.{charged_comes, move_comes, operate_comes}
 use Rattle.metadata_relation.specs.Blocks.{top_cell}
 use Rattle.metadata_relation.specs.Holding.{area_of, IsTemporary}
 use Rattle.metadata_relation.specs.Registers.{first_free, temporary_register}
 use Rattle.metadata_relation.specs.Stages.{activation, Compiled, factor, IsAt, level, map_of, MatchesBy, names, views}
 use Rattle.metadata_relation.specs.Stages.{world}
 use Rattle.metadata_relation.specs.Steps.{IsCompiled}
-use Rattle.metadata_relation.specs.Structures.{area_code, begin_area_code, bound_code, HasAreas, HaveAreas}
+use Rattle.metadata_relation.specs.Structures.{begin_area_code, HasAreas, HaveAreas}
 use Rattle.metadata_relation.specs.Structures.{hold_area}
-use Rattle.metadata_relation.proofs.Acting.{Reached, reached_computed, reached_here, reached_next, reached_words}
+use Rattle.metadata_relation.proofs.Acting.{Reached, reached_by}
 use Rattle.metadata_relation.proofs.Acting.{ReachesNode}
 use Rattle.metadata_relation.proofs.AreaPlaces.{area_first, area_last, area_place, area_within, areas_apart}
 use Rattle.metadata_relation.proofs.AreaPlaces.{greatest_whole}
+use Rattle.metadata_relation.proofs.AreaRegisters.{area_begins, calls_end}
 use Rattle.metadata_relation.proofs.AreasBeside.{charge_whole, holds_in, room_is, waits_in}
 use Rattle.metadata_relation.proofs.Assigning.{assigned}
 use Rattle.metadata_relation.proofs.Finishing.{AreFew, beside_ne, ends_with, StaysBeside}
@@ -118,20 +112,6 @@ pub hold_few : (b : Bool) (r a e : ℕ) → AreFew 5 (hold_area b r a e)
 hold_few false r a e = record { assign = refl; few = omega arith }
 hold_few true r a e = record { assign = refl; few = omega arith }
 
--- ---- sums of registers
-
-pub register_sum : (a b : ℕ) → a + b < 2 ^ 64 → reg_result Add a b ≡ a + b
-unfolding reg_result
-register_sum a b small = omega arith
-
-spaces_low : (m : MapSizes) → AreMapped m → m.budgets.calls ≤ region_start m StructureValues
-unfolding region_size region_start
-spaces_low m h = omega (arith, h.budgets.calls.greatest)
-
-calls_end : (m : MapSizes) → region_end m StructureValues ≡ region_start m StructureValues + m.budgets.calls
-unfolding region_size
-calls_end m = refl
-
 module _ (c : Compiled) (IsGood : Bytes → Type 0) (right : IsCompiled c IsGood)
     (have : HaveAreas c.layout.expansion.code) (u n : ℕ) (temps : Temps) (ws : List Frame) (s : State)
     (v : flat.State) (xs : List flat.Frame)
@@ -184,151 +164,6 @@ module _ (c : Compiled) (IsGood : Bytes → Type 0) (right : IsCompiled c IsGood
 
   -- ---- its address
 
-  -- a register has the address of an area, and those before it are as they were
-  pub record HasAreaAt (register temporary place most : ℕ) (values : flat.Values) : Type 0 where
-    pub after : flat.Values
-    pub work : ℕ
-    pub reached : Reached (map_of c) c.layout.program u (c.layout.address u n) v xs place
-        (record v { values = after; work = work }) most
-    pub gives : after register ≡ area_of (map_of c) c.layout.expansion.code h.code s.charged temporary
-    pub others : (y : ℕ) → y < register → after y ≡ values y
-
-  pub area_found : HasWords (flat.Stands u (c.layout.address u n) v xs) → (r d place most : ℕ) (values : flat.Values)
-      (work : ℕ)
-      → Reached (map_of c) c.layout.program u (c.layout.address u n) v xs place
-      (record v { values = values; work = work }) most
-      → HasAt (body_of (function_in c.layout.program u)) place
-      (area_code c.layout.expansion.inline.operators (map_of c) c.layout.expansion.code h.code d r)
-      → HasAreaAt r d (place + length
-      (area_code c.layout.expansion.inline.operators (map_of c) c.layout.expansion.code h.code d r)) (most + 14) values
-  area_found words r d place most values work come has =
-      let m = map_of c in
-      let p = c.layout.program in
-      let k = region_start m StructureValues - h.code.room + 5 * structures_below t h.code.code d in
-      let all = charge_is in
-      let fits = h.fits in
-      let charge = h.charge in
-      let low = spaces_low m right.mapped in
-      let end = calls_end m in
-      let cell = cell_place m right.mapped in
-      let behind = cell.behind in let small = cell.small in
-      let within = areas.fit d in
-      let constants = c.layout.expansion.inline.operators.constant (r + 1) k (r + 2) in
-      let sum = Operate Add r r (Register (r + 1)) ∷ [] in
-      let v0 : flat.State = record v { values = values; work = work } in
-      let first = charged_comes m p u place v0 xs r has.0 in
-      let v1 : flat.State = record v { values = put values r (wrap (charged p u xs)); work = work + first.work } in
-      let one = reached_next m p u xs pc place (place + 1) v v0
-      (record v { values = put values r (wrap (charged p u xs)); work = work }) most 2 come first in
-      let made = right.inline.operators.constant m p (record {
-        function = u;
-        place = place + 1;
-        state = v1;
-        frames = xs;
-      })
-      (r + 1) k (r + 2) (omega arith) (omega arith)
-      (record {
-        has = has_front body (place + 1) constants sum has.1;
-        words = reached_words m p u xs pc (place + 1) v v1 (most + 2) words one;
-      }) in
-      let v2 : flat.State = record v { values = made.after; work = v1.work + made.work } in
-      let two = reached_computed m p u xs pc (place + 1) (place + 1 + length constants) (r + 1) k (r + 2) v v1
-      (most + 2) 5
-      one made in
-      let there = has_back body (place + 1) constants sum has.1 in
-      let third = operate_comes m p u (place + 1 + length constants) v2 xs Add r r (Register (r + 1)) there.0 in
-      let total = reg_result Add (made.after r) (made.after (r + 1)) in
-      let three = reached_next m p u xs pc (place + 1 + length constants) (place + 1 + length constants + 1) v v2
-      (record v2 { values = put made.after r total }) (most + 2 + 10) 2 two third in
-      let charge_there : made.after r ≡ s.charged =
-      made.others r (omega arith) (λ e. omega arith) ∙ put_same values r (wrap (charged p u xs)) ∙ omega arith in
-      let counted = length-append constants sum in
-      let at : place + 1 + length constants + 1 ≡ place + suc (length (constants ++ sum)) = omega (arith, counted) in
-      let number = made.gives in
-      record {
-        after = put made.after r total;
-        work = v2.work + third.work;
-        reached = subst (λ z. Reached m p u pc v xs z (record v {
-          values = put made.after r total;
-          work = v2.work +
-              third.work;
-        })
-            (most + 14)) at (record {
-              steps = three.steps;
-              comes = three.comes;
-              few =
-                  (let few = three.few in omega arith);
-            });
-        gives = put_same made.after r total
-            ∙ register_sum (made.after r) (made.after (r + 1)) (omega (arith, charge_there, number))
-            ∙ omega (arith, charge_there, number);
-        others = λ y lt. put_other made.after r total y (λ e. omega arith)
-            ∙ made.others y (omega arith) (λ e. omega arith)
-            ∙ put_other values r (wrap (charged p u xs)) y (λ e. omega arith);
-      }
-
-  -- where the entries begin
-
-  pub record HasBoundAt (register size address place most : ℕ) (values : flat.Values) : Type 0 where
-    pub after : flat.Values
-    pub work : ℕ
-    pub reached : Reached (map_of c) c.layout.program u (c.layout.address u n) v xs place
-        (record v { values = after; work = work }) most
-    pub gives : after register ≡ entries_begin address size
-    pub others : (y : ℕ) → y < register → after y ≡ values y
-
-  pub bound_found : HasWords (flat.Stands u (c.layout.address u n) v xs) → (r a size address place most : ℕ)
-      (values : flat.Values) (work : ℕ) → a < r → values a ≡ address → IsAreaPlace (map_of c) size address
-      → Reached (map_of c) c.layout.program u (c.layout.address u n) v xs place
-      (record v { values = values; work = work }) most
-      → HasAt (body_of (function_in c.layout.program u)) place
-      (bound_code c.layout.expansion.inline.operators size a r)
-      → HasBoundAt r size address (place + length (bound_code c.layout.expansion.inline.operators size a r)) (most + 12)
-      values
-  bound_found words r a size address place most values work less is lies come has =
-      let m = map_of c in
-      let p = c.layout.program in
-      let last = lies.last in
-      let cell = cell_place m right.mapped in
-      let behind = cell.behind in let small = cell.small in
-      let constants = c.layout.expansion.inline.operators.constant r (whole_words size) (r + 1) in
-      let sum = Operate Add r r (Register a) ∷ [] in
-      let v0 : flat.State = record v { values = values; work = work } in
-      let made = right.inline.operators.constant m p (record { function = u; place = place; state = v0; frames = xs }) r
-      (whole_words size) (r + 1) (omega arith) (omega arith)
-      (record {
-        has = has_front body place constants sum has;
-        words = reached_words m p u xs pc place v v0 most words come;
-      }) in
-      let v1 : flat.State = record v { values = made.after; work = work + made.work } in
-      let one = reached_computed m p u xs pc place (place + length constants) r (whole_words size) (r + 1) v v0 most 5
-      come
-      made in
-      let there = has_back body place constants sum has in
-      let second = operate_comes m p u (place + length constants) v1 xs Add r r (Register a) there.0 in
-      let total = reg_result Add (made.after r) (made.after a) in
-      let two = reached_next m p u xs pc (place + length constants) (place + length constants + 1) v v1
-      (record v1 { values = put made.after r total }) (most + 10) 2 one second in
-      let address_there : made.after a ≡ address = made.others a (omega arith) (λ e. omega arith) ∙ is in
-      let number = made.gives in
-      let counted = length-append constants sum in
-      let at : place + length constants + 1 ≡ place + length (constants ++ sum) = omega (arith, counted) in
-      record {
-        after = put made.after r total;
-        work = v1.work + second.work;
-        reached = subst (λ z. Reached m p u pc v xs z (record v {
-          values = put made.after r total;
-          work = v1.work +
-              second.work;
-        })
-            (most + 12)) at (record { steps = two.steps; comes = two.comes; few = (let few = two.few in omega arith) });
-        gives = put_same made.after r total
-            ∙ register_sum (made.after r) (made.after a) (omega (arith, address_there, number))
-            ∙ omega (arith, address_there, number);
-        others = λ y lt. put_other made.after r total y (λ e. omega arith)
-            ∙ made.others y (omega arith) (λ e. omega arith);
-      }
-
   -- both, and the first argument of a call
   pub record IsBegun (size temporary place most : ℕ) : Type 0 where
     pub values : flat.Values
@@ -351,35 +186,19 @@ module _ (c : Compiled) (IsGood : Bytes → Type 0) (right : IsCompiled c IsGood
   area_begun words size d small has =
       let m = map_of c in
       let p = c.layout.program in
-      let A = area_of m t h.code s.charged d in
-      let one = area_code c.layout.expansion.inline.operators m t h.code d free in
-      let two = bound_code c.layout.expansion.inline.operators size free (free + 1) in
-      let three = Move (free + 2) free ∷ [] in
-      let f = area_found words free d pc 0 v.values v.work (reached_here m p u xs pc v)
-      (has_front body pc one (two ++ three) has) in
-      let has1 = has_back body pc one (two ++ three) has in
-      let e = bound_found words (free + 1) free size A (pc + length one) 14 f.after f.work (omega arith) f.gives
-      (place_here d size small) f.reached (has_front body (pc + length one) two three has1) in
-      let has2 = has_back body (pc + length one) two three has1 in
-      let q = pc + length one + length two in
-      let v1 : flat.State = record v { values = e.after; work = e.work } in
-      let move = move_comes m p u q v1 xs (free + 2) free has2.0 in
-      let values = put e.after (free + 2) (e.after free) in
-      let all = reached_next m p u xs pc q (q + 1) v v1 (record v1 { values = values }) 26 2 e.reached move in
-      let address = e.others free (omega arith) ∙ f.gives in
-      let long = length-append one (two ++ three) in
-      let rest = length-append two three in
-      let end : q + 1 ≡ pc + length (one ++ (two ++ three)) = omega (arith, long, rest) in
+      let all = charge_is in
+      let f = area_begins c IsGood right u xs h.code areas s.charged h.charge (omega (arith, all)) h.fits free size d pc v
+      small words has in
+      let k = reached_by m p u xs pc (pc + length (begin_area_code c.layout.expansion.inline.operators m t h.code size d
+      free)) v (record v { values = f.after }) 28 f.comes in
       record {
-        values = values;
-        work = e.work + move.work;
-        reached = subst (λ z. Reached m p u pc v xs z (record v { values = values; work = e.work + move.work }) 28) end
-            all;
-        address = put_other e.after (free + 2) (e.after free) free (λ r. omega arith) ∙ address;
-        ends = put_other e.after (free + 2) (e.after free) (free + 1) (λ r. omega arith) ∙ e.gives;
-        first = put_same e.after (free + 2) (e.after free) ∙ address;
-        others = λ y lt. put_other e.after (free + 2) (e.after free) y (λ r. omega arith)
-            ∙ e.others y (omega arith) ∙ f.others y lt;
+        values = f.after;
+        work = v.work + f.comes.work;
+        reached = record { steps = k.steps; comes = k.comes; few = k.few };
+        address = f.address_is;
+        ends = f.ends;
+        first = f.first;
+        others = f.others;
       }
 
   -- ---- the step
@@ -533,6 +352,7 @@ module _ (c : Compiled) (IsGood : Bytes → Type 0) (right : IsCompiled c IsGood
             small = within;
             area_is = lies;
             sound = sound;
+            tagged = tt;
           };
           none = λ q. absurd (true≢false (sym may ∙ q));
         };

@@ -74,6 +74,7 @@ module _ (g : Views) (k : Keys) (o : Objects) (m m' : Bytes) where
             small = h.small;
             area_is = area_same g k c a m m' (λ i lt. same i (omega arith)) h.area_is;
             sound = h.sound;
+            tagged = h.tagged;
           }
 
   -- a function, of which nothing is known of the temporaries whose areas change
@@ -119,6 +120,7 @@ module _ (c : Compiled) (IsGood : Bytes → Type 0) (right : IsCompiled c IsGood
       into = h.into;
       behind = h.behind;
       leads = h.leads;
+      awaits = h.awaits;
       below = h.below;
       holds = holds_in g k o m m' (record {
         tac = c.layout.expansion.code;

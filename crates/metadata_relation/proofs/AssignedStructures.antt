@@ -228,6 +228,7 @@ module _ (c : Compiled) (IsGood : Bytes → Type 0) (right : IsCompiled c IsGood
           small = held.small;
           area_is = held.area_is;
           sound = held.sound;
+          tagged = held.tagged;
         }) inside small (place + 1) (most + 2) values (work + pass.work) one same to_is
         (has_front body (place + 1) part_list behind_list has.1) in
         let last = end_is in
@@ -247,6 +248,7 @@ module _ (c : Compiled) (IsGood : Bytes → Type 0) (right : IsCompiled c IsGood
                 small = held.small;
                 area_is = held.area_is;
                 sound = held.sound;
+                tagged = held.tagged;
               }) inside small line;
           work = refl;
           rest = refl;

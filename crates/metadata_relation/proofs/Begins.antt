@@ -58,18 +58,19 @@ use Rattle.metadata_plan.proofs.Flat.{at_place, Comes, constant_comes, next_come
 use Rattle.metadata_plan.proofs.Flat.{weight_small}
 use Rattle.metadata_plan.proofs.Flat.{words_kept}
 use Rattle.metadata_plan.proofs.SetUp.{exhausted}
-use Rattle.metadata_relation.specs.Blocks.{objects_of_body, start_code, main_tests, before_main}
+use Rattle.metadata_relation.specs.Blocks.{objects_of_body, result_of, start_code, main_tests, before_main}
 use Rattle.metadata_relation.specs.Blocks.{object_tests}
 use Rattle.metadata_relation.specs.Expanded.{EntersAt}
+use Rattle.metadata_relation.specs.Registers.{is_no_aggregate}
 use Rattle.metadata_relation.specs.Scopes.{AreGood, context_at}
 use Rattle.metadata_relation.specs.Stages.{Compiled, expansion_of, IsFirst, map_of, names, StandsIn, views}
-use Rattle.metadata_relation.specs.Steps.{IsCompiled, is_scalar_call, is_scalar_main, CoversMain}
+use Rattle.metadata_relation.specs.Steps.{IsCompiled, is_covered_call, is_covered_main, CoversMain}
 use Rattle.metadata_relation.proofs.CallStates.{entered_from, fresh_good}
 use Rattle.metadata_relation.proofs.Calls.{spare_or}
 use Rattle.metadata_relation.proofs.EnteredBodies.{enters}
 use Rattle.metadata_relation.proofs.Entering.{call_stage, earlier, entry_there, EntryIsThere, few_parameters}
-use Rattle.metadata_relation.proofs.Entering.{IsScalarCall}
-use Rattle.metadata_relation.proofs.Entering.{scalar_call}
+use Rattle.metadata_relation.proofs.Entering.{IsCoveredCall}
+use Rattle.metadata_relation.proofs.Entering.{covered_call}
 use Rattle.source_meaning.proofs.Holding.{live_made}
 use Rattle.metadata_relation.proofs.Statics.{placed_count, placed_static}
 use Rattle.metadata_relation.proofs.ObjectTests.{IsObjectTested, keys_spent, objects_tested, space_spent}
@@ -115,7 +116,8 @@ module _ (c : Compiled) (IsGood : Bytes → Type 0) (right : IsCompiled c IsGood
     (local : IsLocal (map_of c) c.entry IsGood) (covered : CoversMain c) (input : List ℕ) (memory : Bytes)
     (k : CodeFunction)
     (found : code_in c.layout.expansion.code c.layout.expansion.code.main ≡ Some k)
-    (plain : IsScalarCall c IsGood right k) (nothing : length k.parameters ≡ 0) where
+    (plain : IsCoveredCall c IsGood right k) (nothing : length k.parameters ≡ 0)
+    (scalar : is_no_aggregate (result_of c.layout.expansion.code k) ≡ true) where
   abbrev m : MapSizes
   m = map_of c
 
@@ -488,7 +490,7 @@ module _ (c : Compiled) (IsGood : Bytes → Type 0) (right : IsCompiled c IsGood
               statics_live = λ x low. (placed_static _ c.layout.expansion.code.statics 0 x low).live;
               set_up_good = set_good;
               good = good;
-              wait = (refl, (refl, (let long = ap length before_is in omega (arith, long)), refl));
+              wait = (refl, (refl, (let long = ap length before_is in omega (arith, long)), refl, scalar));
             })
           where
             not_automatic : (x : ℕ) → x < length old → (object_at old x).storage ≡ Automatic → ⊥
@@ -532,16 +534,19 @@ begins c IsGood right local covered s x h words =
     (by (code_in c.layout.expansion.code c.layout.expansion.code.main) refl covered.main))
   where
     by : (o : Option CodeFunction) → code_in c.layout.expansion.code c.layout.expansion.code.main ≡ o
-        → is_scalar_main c.layout.expansion.code o ≡ true
+        → is_covered_main c.layout.expansion.code o ≡ true
         → Result c IsGood (tac_step c.setting (expansion_of c).code
         (Begins (fresh c.setting (objects_before (expansion_of c).code c.setting) h.input)))
         (started c.layout.program h.memory h.input)
     by None found e = cc
     by (Some k) found e =
-        let parts = and_parts (is_scalar_call c.layout.expansion.code (Some k)) (length k.parameters == 0) e in
+        let parts = and_parts (is_covered_call c.layout.expansion.code (Some k)
+        && is_no_aggregate (result_of c.layout.expansion.code k)) (length k.parameters == 0) e in
+        let first = and_parts (is_covered_call c.layout.expansion.code (Some k))
+        (is_no_aggregate (result_of c.layout.expansion.code k)) parts.0 in
         subst (λ z. Result c IsGood (called_at c.setting z c.layout.expansion.code.main [] (line_in z) []
         (spent 4 (fresh c.setting (objects_before (expansion_of c).code c.setting) h.input)))
         (started c.layout.program h.memory h.input)) (sym found)
         (main_called c IsGood right local covered h.input h.memory k found
-        (scalar_call c IsGood right k parts.0) (eqb-true (length k.parameters) 0 parts.1) h.stands h.spaces
+        (covered_call c IsGood right k first.0) (eqb-true (length k.parameters) 0 parts.1) first.1 h.stands h.spaces
         (subst HasWords h.started_is words))

@@ -16,6 +16,7 @@ use Rattle.obj_memory.specs.Sound.{IsSoundTag}
 use Rattle.c_tree.specs.declared.expression.Kind.{Kind}
 use Rattle.c_tree.specs.declared.expression.Kind.TheVariants.{Void, Scalar as OfScalar}
 use Rattle.c_tree.specs.declared.program.Variable.{Variable}
+use Rattle.c_tree.specs.Room.{structure_bytes}
 use Rattle.source_meaning.specs.State.{State, Rvalue}
 use Rattle.source_meaning.specs.Blocks.{has_objects, objects_end}
 use Rattle.source_meaning.specs.Calls.{caller}
@@ -28,6 +29,7 @@ use Rattle.tac_ir.specs.declared.function.Tac.{Tac}
 use Rattle.tac_ir.specs.Fitting.{are_passed, taken_by}
 use Rattle.tac_ir.specs.Stage.{Temps, no_temps, gathered, Waiting, Frame, Waits, Stage, Stands, Over, came}
 use Rattle.tac_ir.specs.Costs.{spent, fourfold}
+use Rattle.tac_ir.specs.Structures.{result_of_type}
 use Rattle.tac_ir.specs.Meaning.{function_in as code_in, header_of_code, begun, called_at, effect}
 use Rattle.flat_code.specs.declared.instruction.FlatInstruction.{FlatInstruction}
 use Rattle.flat_code.specs.declared.instruction.FlatInstruction.TheVariants as flat_code
@@ -44,9 +46,10 @@ use Rattle.lib_wrappers.proofs.AllocatingRoutines.SourceEntries.{some_bytes}
 use Rattle.metadata_plan.specs.Registers.{most_temporaries}
 use Rattle.metadata_plan.specs.Entries.{is_among}
 use Rattle.metadata_plan.specs.Expanded.{Leads}
+use Rattle.metadata_plan.specs.Operators.{OperatorCode}
 use Rattle.metadata_plan.proofs.Flat.{Comes, then_comes, at_place, weaker, one}
 use Rattle.metadata_plan.proofs.SetUp.{exhausted}
-use Rattle.metadata_relation.specs.Blocks.{objects_of_body, result_of, result_entry, pack}
+use Rattle.metadata_relation.specs.Blocks.{await_result, objects_of_body, result_of, result_code, pack}
 use Rattle.metadata_relation.specs.Holding.{IsHeldAt}
 use Rattle.metadata_relation.specs.Registers.{parameters_end}
 use Rattle.metadata_relation.specs.Registers.{temporary_register}
@@ -55,11 +58,12 @@ use Rattle.metadata_relation.specs.Stages.{Compiled, map_of, names, views, world
 use Rattle.metadata_relation.specs.Stages.{IsAt}
 use Rattle.metadata_relation.specs.Steps.{IsCompiled}
 use Rattle.metadata_relation.proofs.Assigning.{assigned}
+use Rattle.metadata_relation.proofs.AwaitedResults.{awaits_result, IsAwaited, result_fits}
 use Rattle.metadata_relation.proofs.Packing.{ways_of}
 use Rattle.metadata_relation.proofs.Packing.{count_passed}
 use Rattle.metadata_relation.proofs.Registers.{temporary_free}
 use Rattle.metadata_relation.proofs.Standing.{good_now, IsNode, node, Result}
-use Rattle.metadata_relation.proofs.Entering.{there, IsScalarCall, scalar_call, call_stage}
+use Rattle.metadata_relation.proofs.Entering.{there, IsCoveredCall, covered_call, call_stage}
 use Rattle.addr_map.specs.Places.{functions_begin, function_address}
 use Rattle.obj_memory.specs.declared.object.Storage.{Storage}
 use Rattle.obj_memory.specs.declared.object.Storage.TheVariants.{Static, Automatic, Allocated}
@@ -82,8 +86,8 @@ use Rattle.metadata_relation.specs.Blocks.{Expansion, callee_tests, room_tests, 
 use Rattle.metadata_relation.specs.Blocks.{through_of}
 use Rattle.metadata_relation.specs.Expanded.{ExpandsAt}
 use Rattle.metadata_relation.specs.FunctionTypes.{first_of_type, object_units, room_told, type_key_of}
-use Rattle.metadata_relation.specs.Registers.{area_words, result_words}
-use Rattle.metadata_relation.specs.Steps.{are_scalar_calls, are_sized}
+use Rattle.metadata_relation.specs.Registers.{result_words}
+use Rattle.metadata_relation.specs.Steps.{are_covered_calls, are_sized, comes_to}
 use Rattle.metadata_relation.proofs.CalleeTests as callee_run
 use Rattle.metadata_relation.proofs.Handing as handing
 use Rattle.metadata_relation.proofs.Handing.{held_at}
@@ -174,6 +178,9 @@ module _ (c : Compiled) (IsGood : Bytes → Type 0) (right : IsCompiled c IsGood
 
   abbrev code : Tac
   code = c.layout.expansion.code
+
+  abbrev ops : OperatorCode
+  ops = c.layout.expansion.inline.operators
 
   abbrev fs : List CodeFunction
   fs = c.layout.expansion.code.functions
@@ -282,7 +289,7 @@ module _ (c : Compiled) (IsGood : Bytes → Type 0) (right : IsCompiled c IsGood
     -- no function has the type
     missing : slice_get c.layout.expansion.code.functions kind ≡ None → Effect
     missing none =
-        let has = subst (λ o. HasAt body pc (through_of map_now code h.code o kind line d count with_entry)) none
+        let has = subst (λ o. HasAt body pc (through_of ops map_now code h.code o kind line d count with_entry)) none
         label.put.has in
         let untyped : (f : ℕ) → has_type (header_at c.setting.functions f) type ≡ false =
         λ f. ap (λ z. has_type (header_at z f) type) (headers_are c IsGood right) ∙ none_typed fs type none f in
@@ -297,7 +304,9 @@ module _ (c : Compiled) (IsGood : Bytes → Type 0) (right : IsCompiled c IsGood
 
     module _ (like : CodeFunction) (first : slice_get c.layout.expansion.code.functions kind ≡ Some like)
         (fit : fit_type c.setting.functions type (gathered temps (d + 1) count) ≡ true)
-        (plains : are_scalar_calls c.layout.expansion.code type c.layout.expansion.code.functions ≡ true) where
+        (plains : are_covered_calls c.layout.expansion.code type c.layout.expansion.code.functions ≡ true)
+        (comes_there : comes_to (result_of_type c.layout.expansion.code.results type)
+        (c.layout.expansion.contents u next d) ≡ true) where
       typed_like : like.type_number ≡ type
       typed_like = first_typed fs type like first
 
@@ -333,28 +342,31 @@ module _ (c : Compiled) (IsGood : Bytes → Type 0) (right : IsCompiled c IsGood
 
       abbrev call_with : (words : ℕ) → Kind → FlatInstruction
       call_with words gives =
-          flat_code.CallAddress (temporary_register h.code d) (moved_register h.code (5 * (d + 1)))
-          (words + area_words gives) (temporary_register h.code d) (result_words gives)
+          flat_code.CallAddress (temporary_register h.code d) (moved_register h.code (5 * (d + 1))) words
+          (temporary_register h.code d) (result_words gives)
 
       abbrev calls_with : (words : ℕ) → Kind → List FlatInstruction
       calls_with words gives =
-          call_with words gives ∷ result_entry gives with_entry (temporary_register h.code d)
+          call_with words gives ∷ result_code c.layout.expansion.code h.code gives with_entry d
+
+      abbrev waiting_for : Kind → List FlatInstruction
+      waiting_for gives = await_result c.layout.expansion.inline.operators (map_of c) c.layout.expansion.code h.code gives d
 
       abbrev code_with : List Passed → (words : ℕ) → Kind → List FlatInstruction
-      code_with ways words gives = callee_list ++ (room_list ++ (object_list
-          ++ (pack h.code ways (moved_register h.code (5 * (d + 1))) (d + 1) ++ calls_with words gives)))
+      code_with ways words gives = callee_list ++ (room_list ++ (object_list ++ (waiting_for gives
+          ++ (pack h.code ways (moved_register h.code (5 * (d + 1))) (d + 1) ++ calls_with words gives))))
 
       stood_like : Stood (code_with (ways_of like.parameters) (parameters_end like) (result_of code like))
       stood_like =
-          subst (λ b. Stood (if b then through_code map_now code h.code like kind line d with_entry
+          subst (λ b. Stood (if b then through_code ops map_now code h.code like kind line d with_entry
           else flat_code.End (AbortAt line) ∷ [])) (eq-eqb (length like.parameters) count (sym count_like))
-          (subst (λ o. Stood (through_of map_now code h.code o kind line d count with_entry)) first
+          (subst (λ o. Stood (through_of ops map_now code h.code o kind line d count with_entry)) first
           (label.put.has, label.put.leads))
 
       has_callee : HasAt body pc callee_list
-      has_callee = has_front body pc callee_list (room_list ++ (object_list
+      has_callee = has_front body pc callee_list (room_list ++ (object_list ++ (waiting_for (result_of code like)
           ++ (pack h.code (ways_of like.parameters) (moved_register h.code (5 * (d + 1))) (d + 1)
-          ++ calls_with (parameters_end like) (result_of code like)))) stood_like.0
+          ++ calls_with (parameters_end like) (result_of code like))))) stood_like.0
 
       abbrev Tested : Bool → Type 0
       Tested = callee_run.IsTested (map_of c) c.layout.program u (c.layout.address u n) v xs kind line
@@ -376,8 +388,8 @@ module _ (c : Compiled) (IsGood : Bytes → Type 0) (right : IsCompiled c IsGood
       module _ (f : ℕ) (k : CodeFunction) (found : code_in c.layout.expansion.code f ≡ Some k)
           (typed : k.type_number ≡ type) (tag_is : (temps d).value.tag ≡ OfFunction f)
           (word_is : (temps d).value.word ≡ function_address f) (passed_all : passes ≡ true) where
-        plain : IsScalarCall c IsGood right k
-        plain = scalar_call c IsGood right k (plain_at code type fs f k plains found typed)
+        plain : IsCoveredCall c IsGood right k
+        plain = covered_call c IsGood right k (plain_at code type fs f k plains found typed)
 
         passed : are_passed (taken_by (header_of_code k)) (gathered temps (d + 1) count) ≡ true
         passed = passed_to type vs fs f k fits_code found typed
@@ -393,8 +405,11 @@ module _ (c : Compiled) (IsGood : Bytes → Type 0) (right : IsCompiled c IsGood
         moves = pack h.code (ways_of k.parameters) (moved_register h.code (5 * (d + 1))) (d + 1)
 
         abbrev behind : List FlatInstruction
-        behind = result_entry (result_of c.layout.expansion.code k) (c.layout.expansion.entries u next d)
-            (temporary_register h.code d)
+        behind = result_code c.layout.expansion.code h.code (result_of c.layout.expansion.code k)
+            (c.layout.expansion.entries u next d) d
+
+        abbrev waiting : List FlatInstruction
+        waiting = waiting_for (result_of c.layout.expansion.code k)
 
         abbrev calls : List FlatInstruction
         calls = calls_with (parameters_end k) (result_of c.layout.expansion.code k)
@@ -410,30 +425,43 @@ module _ (c : Compiled) (IsGood : Bytes → Type 0) (right : IsCompiled c IsGood
         abbrev at_objects : ℕ
         at_objects = c.layout.address u n + 8 + 7
 
+        abbrev at_wait : ℕ
+        at_wait = c.layout.address u n + 8 + 7 + length object_list
+
         abbrev at_moves : ℕ
-        at_moves = c.layout.address u n + 8 + 7 + length object_list
+        at_moves = at_wait + length waiting
 
         abbrev q : ℕ
-        q = c.layout.address u n + 8 + 7 + length object_list + length moves
+        q = at_moves + length moves
 
-        has_behind : HasAt body (c.layout.address u n + 8) (room_list ++ (object_list ++ (moves ++ calls)))
-        has_behind = has_back body pc callee_list (room_list ++ (object_list ++ (moves ++ calls))) stood.0
+        has_behind : HasAt body (c.layout.address u n + 8) (room_list ++ (object_list ++ (waiting ++ (moves ++ calls))))
+        has_behind = has_back body pc callee_list (room_list ++ (object_list ++ (waiting ++ (moves ++ calls)))) stood.0
 
         has_room : HasAt body (c.layout.address u n + 8) room_list
-        has_room = has_front body (c.layout.address u n + 8) room_list (object_list ++ (moves ++ calls)) has_behind
+        has_room = has_front body (c.layout.address u n + 8) room_list (object_list ++ (waiting ++ (moves ++ calls)))
+            has_behind
 
-        has_more : HasAt body at_objects (object_list ++ (moves ++ calls))
-        has_more = has_back body (c.layout.address u n + 8) room_list (object_list ++ (moves ++ calls)) has_behind
+        has_more : HasAt body at_objects (object_list ++ (waiting ++ (moves ++ calls)))
+        has_more = has_back body (c.layout.address u n + 8) room_list (object_list ++ (waiting ++ (moves ++ calls)))
+            has_behind
+
+        has_wait : HasAt body at_wait (waiting ++ (moves ++ calls))
+        has_wait = has_back body at_objects object_list (waiting ++ (moves ++ calls)) has_more
 
         has_rest : HasAt body at_moves (moves ++ calls)
-        has_rest = has_back body at_objects object_list (moves ++ calls) has_more
+        has_rest = has_back body at_wait waiting (moves ++ calls) has_wait
 
         has_call : HasAt body q calls
         has_call = has_back body at_moves moves calls has_rest
 
         leads_behind : Leads body (q + 1 + length behind) (c.layout.address u next)
         leads_behind = subst (λ z. Leads body z (c.layout.address u next))
-            (omega (arith, length-append object_list (moves ++ calls), length-append moves calls)) stood.1
+            (omega (
+              arith,
+              length-append object_list (waiting ++ (moves ++ calls)),
+              length-append waiting (moves ++ calls),
+              length-append moves calls,
+            )) stood.1
 
         low_calls : (map_of c).budgets.calls < 2 ^ 63
         low_calls = let z = right.mapped.budgets.calls.greatest in omega (arith, z)
@@ -521,7 +549,7 @@ module _ (c : Compiled) (IsGood : Bytes → Type 0) (right : IsCompiled c IsGood
           v2 = record v { turns = v.turns + 1; values = B.values; work = v.work + to_objects.work }
 
           has_tests : HasAt body at_objects object_list
-          has_tests = has_front body at_objects object_list (moves ++ calls) has_more
+          has_tests = has_front body at_objects object_list (waiting ++ (moves ++ calls)) has_more
 
           units_there : B.values (temporary_register h.code d + 3) / 2 ^ 12 % 2 ^ 19 ≡ object_units k
           units_there =
@@ -547,7 +575,7 @@ module _ (c : Compiled) (IsGood : Bytes → Type 0) (right : IsCompiled c IsGood
             others : (y : ℕ) → y < first_free h.code → values y ≡ B.values y
             place : ℕ
             comes : ComesTo place (record v { turns = v.turns + 1; values = values }) 66
-            behind : room ≡ true → key ≡ true → place ≡ at_moves
+            behind : room ≡ true → key ≡ true → place ≡ at_wait
             no_room : room ≡ false → instruction_at c.layout.program u place ≡ Some (flat_code.End (Stack line))
             no_key : room ≡ true → key ≡ false → instruction_at c.layout.program u place ≡ Some (flat_code.End (Keys line))
 
@@ -563,10 +591,10 @@ module _ (c : Compiled) (IsGood : Bytes → Type 0) (right : IsCompiled c IsGood
               record {
                 values = C.values;
                 others = C.others;
-                place = at_moves;
-                comes = weaker map_now program u pc v xs at_moves (record v { turns = v.turns + 1; values = C.values })
+                place = at_wait;
+                comes = weaker map_now program u pc v xs at_wait (record v { turns = v.turns + 1; values = C.values })
                     (22 + 6) 66
-                    (then_comes map_now program u pc v xs at_objects at_moves
+                    (then_comes map_now program u pc v xs at_objects at_wait
                     (record v { turns = v.turns + 1; values = B.values })
                     (record v { turns = v.turns + 1; values = C.values }) 22 6 to_objects
                     (record { steps = j.steps; work = j.work; few = j.few; comes = j.comes })) most;
@@ -595,7 +623,7 @@ module _ (c : Compiled) (IsGood : Bytes → Type 0) (right : IsCompiled c IsGood
               ∙ room_same c IsGood right u xs h.keys s v h.stands top_inside at_objects v2 refl line free vs some)
               (key_same c IsGood right u xs h.keys s v h.stands top_inside at_objects v2 refl line free) in
               let j = C.comes in
-              let long : at_objects + 24 ≡ at_moves = omega (arith, tests_long) in
+              let long : at_objects + 24 ≡ at_wait = omega (arith, tests_long) in
               record {
                 values = C.values;
                 others = C.others;
@@ -619,8 +647,8 @@ module _ (c : Compiled) (IsGood : Bytes → Type 0) (right : IsCompiled c IsGood
           D : AreTested has_room_left (not (has_objects (objects_of_body k)) || has_key)
           D = objects_tested_here (has_objects (objects_of_body k)) refl
 
-          between_stays : (y : ℕ) → y < first_free h.code → D.values y ≡ v.values y
-          between_stays y lt = D.others y lt ∙ B.others y lt ∙ A.others y lt
+          tests_stay : (y : ℕ) → y < first_free h.code → D.values y ≡ v.values y
+          tests_stay y lt = D.others y lt ∙ B.others y lt ∙ A.others y lt
 
           reads : (x : ℕ) → x < count → get_or (map (λ (z : Variable). z.kind) k.parameters) x Void ≡ OfScalar Pointer
               → c.layout.expansion.entries u n (d + 1 + x) ≡ true
@@ -628,9 +656,6 @@ module _ (c : Compiled) (IsGood : Bytes → Type 0) (right : IsCompiled c IsGood
               label.closed.read n (d + 1 + x) i at
               (and_from (nat_le d (d + 1 + x)) (nat_lt (d + 1 + x) (d + (count + 1)))
               (le-leb d (d + 1 + x) (omega arith)) (lt-ltb (d + 1 + x) (d + (count + 1)) (omega (arith, low))))
-
-          abbrev packed : flat.Values
-          packed = assigned moves D.values
 
           abbrev Entered : Type 0
           Entered = Gives (call_stage c IsGood right u pc q v xs f k found plain line packed_at (T d) vs
@@ -644,17 +669,34 @@ module _ (c : Compiled) (IsGood : Bytes → Type 0) (right : IsCompiled c IsGood
               le-leb (s.charged + k.room) c.setting.sizes.budgets.calls (omega (arith, fits, budget)))
 
           module _ (space : has_room_left ≡ true) (spare : has_objects (objects_of_body k) ≡ true → has_key ≡ true) where
-            to_moves : ComesTo at_moves (record v { turns = v.turns + 1; values = D.values }) 66
-            to_moves = at_place map_now program u pc v xs D.place at_moves
+            to_wait : ComesTo at_wait (record v { turns = v.turns + 1; values = D.values }) 66
+            to_wait = at_place map_now program u pc v xs D.place at_wait
                 (record v { turns = v.turns + 1; values = D.values }) 66 D.comes
                 (D.behind space (spare_or (has_objects (objects_of_body k)) has_key spare))
+
+            -- what the result needs is put into registers
+            W : IsAwaited c IsGood right u n temps ws s v xs h words d next (result_of c.layout.expansion.code k) at_wait 66
+                D.values
+            W = awaits_result c IsGood right u n temps ws s v xs h words d next (result_of code k) at_wait 66 D.values
+                (result_fits c IsGood right u n temps ws s v xs h words d next i at (result_of code k)
+                (ap (λ t. if d == d then structure_bytes (result_of_type code.results t) else 0) (sym typed)))
+                (ap (λ t. comes_to (result_of_type code.results t) (c.layout.expansion.contents u next d)) typed
+                ∙ comes_there)
+                (has_front body at_wait waiting (moves ++ calls) has_wait) to_wait
+
+            abbrev packed : flat.Values
+            packed = assigned moves W.values
+
+            between_stays : (y : ℕ) → y < first_free h.code → W.values y ≡ v.values y
+            between_stays y lt = W.others y lt ∙ tests_stay y lt
 
             -- the address is still there
             address_there : packed (temporary_register h.code d) ≡ function_address f
             address_there =
                 handing.stay c IsGood right u n temps ws s v xs h words i label d (d + 1) count next 8 refl (inl refl) lows.0
-                lows.1 (omega arith) f line k found passed plain reads (call_with (parameters_end k) (result_of code k))
-                at_moves 66 D.values has_rest leads_behind to_moves (omega arith) between_stays fits space spare (T d)
+                lows.1 f line k found passed plain reads (call_with (parameters_end k) (result_of code k))
+                at_moves 136 W.values has_rest leads_behind W.comes (omega arith) W.awaits between_stays fits space spare
+                (T d)
                 (omega (arith, apart, lows.0))
                 ∙ entry.word ∙ word_is
 
@@ -662,11 +704,11 @@ module _ (c : Compiled) (IsGood : Bytes → Type 0) (right : IsCompiled c IsGood
             enters_it =
                 let callee = there c IsGood right f k found in
                 handing.enters_it c IsGood right u n temps ws s v xs h words i label d (d + 1) count next 8 refl (inl refl)
-                lows.0 lows.1 (omega arith) f line k found passed plain reads
-                (call_with (parameters_end k) (result_of code k)) at_moves 66 D.values has_rest leads_behind to_moves
-                (omega arith) between_stays fits space spare
+                lows.0 lows.1 f line k found passed plain reads
+                (call_with (parameters_end k) (result_of code k)) at_moves 136 W.values has_rest leads_behind W.comes
+                (omega arith) W.awaits between_stays fits space spare
                 (λ w. by_name map_now program u q (record v { turns = v.turns + 1; values = packed; work = w }) xs f (T d)
-                packed_at (parameters_end k + area_words (result_of code k)) (T d) (result_words (result_of code k))
+                packed_at (parameters_end k) (T d) (result_words (result_of code k))
                 has_call.0
                 (ap (function_at program) address_there
                 ∙ names_function program f (of_program c.layout.expansion f k (c.layout.address f)
@@ -721,7 +763,8 @@ module _ (c : Compiled) (IsGood : Bytes → Type 0) (right : IsCompiled c IsGood
           passes_same)
 
     pub call_through_step : fit_type c.setting.functions type (gathered temps (d + 1) count) ≡ true
-        → are_scalar_calls c.layout.expansion.code type c.layout.expansion.code.functions ≡ true
+        → (are_covered_calls c.layout.expansion.code type c.layout.expansion.code.functions
+        && comes_to (result_of_type c.layout.expansion.code.results type) (c.layout.expansion.contents u next d)) ≡ true
         → Gives (effect c.setting (expansion_of c).code (tac.CallThrough type line d count next) u temps ws (spent 8 s))
     call_through_step fit plains = by (slice_get c.layout.expansion.code.functions kind) refl
       where
@@ -730,4 +773,8 @@ module _ (c : Compiled) (IsGood : Bytes → Type 0) (right : IsCompiled c IsGood
             → Gives (effect c.setting (expansion_of c).code (tac.CallThrough type line d count next) u temps ws
             (spent 8 s))
         by None none = missing none
-        by (Some like) first = goes like first fit plains
+        by (Some like) first =
+            let parts = and_parts (are_covered_calls c.layout.expansion.code type c.layout.expansion.code.functions)
+            (comes_to (result_of_type c.layout.expansion.code.results type) (c.layout.expansion.contents u next d)) plains
+            in
+            goes like first fit parts.0 parts.1

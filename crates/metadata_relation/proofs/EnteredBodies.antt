@@ -63,7 +63,7 @@ use Rattle.metadata_relation.proofs.BlockVariables.{body_declares, first_is_obje
 use Rattle.metadata_relation.proofs.CallHolds.{callee_holds}
 use Rattle.metadata_relation.proofs.CallStates.{function_of}
 use Rattle.metadata_relation.proofs.Entering.{begun_values, begins, call_stage, calls_same, enters_without}
-use Rattle.metadata_relation.proofs.Entering.{frame_of, GivesCall, IsAtCall, IsBegun, IsScalarCall, there}
+use Rattle.metadata_relation.proofs.Entering.{frame_of, GivesCall, IsAtCall, IsBegun, IsCoveredCall, there}
 use Rattle.metadata_relation.proofs.Holding.{held_on, holds_on, plain_on}
 use Rattle.metadata_relation.proofs.MadeObjects.{HaveMade, IsToMake, objects_made, placed_lives}
 use Rattle.metadata_relation.proofs.Packing.{parameter_words_are, plain_parameter, words_within}
@@ -130,7 +130,7 @@ module _ (c : Compiled) (IsGood : Bytes → Type 0) (right : IsCompiled c IsGood
 
 module _ (c : Compiled) (IsGood : Bytes → Type 0) (right : IsCompiled c IsGood) (u pc q : ℕ) (v : flat.State)
     (xs : List flat.Frame) (f : ℕ) (k : CodeFunction)
-    (found : slice_get c.layout.expansion.code.functions f ≡ Some k) (plain : IsScalarCall c IsGood right k)
+    (found : slice_get c.layout.expansion.code.functions f ≡ Some k) (plain : IsCoveredCall c IsGood right k)
     (line first into : ℕ) (vs : List Rvalue) (ws : List Frame) (s : State) where
   abbrev Gives : Stage → Type 0
   Gives = GivesCall c IsGood right u pc q v xs f k found plain line first into vs ws s
@@ -178,7 +178,7 @@ module _ (c : Compiled) (IsGood : Bytes → Type 0) (right : IsCompiled c IsGood
     make_list = enter_code c.layout.expansion.inline.operators (map_of c) c.layout.expansion.code k (objects_of_body k) k.line
 
     abbrev store_list : List FlatInstruction
-    store_list = store_parameters c.layout.expansion.inline k 0 k.parameters
+    store_list = store_parameters c.layout.expansion.inline c.layout.expansion.code k 0 k.parameters
 
     abbrev body : List FlatInstruction
     body = body_of (function_in c.layout.program f)

@@ -50,11 +50,10 @@ use Rattle.metadata_relation.specs.Blocks.{enter_body, entry_code, prologue, zer
 use Rattle.metadata_relation.specs.Expanded.{EntersAt}
 use Rattle.metadata_relation.specs.Holding.{IsPlain}
 use Rattle.metadata_relation.specs.Registers.{passed_as, parameters_end, variable_words, parameter_words, total}
-use Rattle.metadata_relation.specs.Registers.{area_words}
 use Rattle.metadata_relation.specs.Registers.{variable_register}
 use Rattle.metadata_relation.specs.Stages.{factor, Compiled, map_of, views, world}
 use Rattle.metadata_relation.specs.Stages.{StandsIn, MatchesBy}
-use Rattle.metadata_relation.specs.Steps.{IsCompiled, is_no_aggregate, are_scalars, is_scalar_call}
+use Rattle.metadata_relation.specs.Steps.{IsCompiled, is_result, are_scalars, is_covered_call}
 use Rattle.metadata_relation.proofs.Assigning.{assigned, assigns}
 use Rattle.metadata_relation.proofs.CallHolds.{none_has, callee_holds}
 use Rattle.metadata_relation.proofs.Holding.{same_world, plain_on}
@@ -144,16 +143,16 @@ module _ (c : Compiled) (IsGood : Bytes → Type 0) (right : IsCompiled c IsGood
   }
 
   -- what is tested of a call
-  pub record IsScalarCall (k : CodeFunction) : Type 0 where
+  pub record IsCoveredCall (k : CodeFunction) : Type 0 where
     pub entered : has_objects (objects_of_body k) ≡ true → can_be_entered (objects_of_body k) ≡ true
     pub scalars : are_scalars k.parameters ≡ true
-    pub result : is_no_aggregate (result_of c.layout.expansion.code k) ≡ true
+    pub result : is_result (result_of c.layout.expansion.code k) ≡ true
 
-  pub scalar_call : (k : CodeFunction) → is_scalar_call c.layout.expansion.code (Some k) ≡ true → IsScalarCall k
-  scalar_call k e =
+  pub covered_call : (k : CodeFunction) → is_covered_call c.layout.expansion.code (Some k) ≡ true → IsCoveredCall k
+  covered_call k e =
       let t = c.layout.expansion.code in
       let vs = objects_of_body k in
-      let all = and_parts (can_enter_body vs && are_scalars k.parameters) (is_no_aggregate (result_of t k)) e in
+      let all = and_parts (can_enter_body vs && are_scalars k.parameters) (is_result (result_of t k)) e in
       let first = and_parts (can_enter_body vs) (are_scalars k.parameters) all.0 in
       record {
         entered = λ some. ap (λ z. not z || can_be_entered vs) (sym some) ∙ first.0;
@@ -187,17 +186,11 @@ module _ (c : Compiled) (IsGood : Bytes → Type 0) (right : IsCompiled c IsGood
       few_passed OneWord = omega arith
       few_passed WithEntry = omega arith
 
-  no_area : (kind : Kind) → is_no_aggregate kind ≡ true → area_words kind ≡ 0
-  no_area Void e = refl
-  no_area (OfScalar k) e = refl
-  no_area (Structure n) e = cc
-  no_area (Array n) e = refl
-
   -- ---- a function is called
 
   -- From where the arguments stand packed and the call does, the run comes to where the function's variables are set.
   module _ (u pc q : ℕ) (v : flat.State) (xs : List flat.Frame) (f : ℕ) (k : CodeFunction)
-      (found : slice_get c.layout.expansion.code.functions f ≡ Some k) (plain : IsScalarCall k) (line first into : ℕ)
+      (found : slice_get c.layout.expansion.code.functions f ≡ Some k) (plain : IsCoveredCall k) (line first into : ℕ)
       (vs : List Rvalue) (ws : List Frame) (s : State) where
     abbrev pub GivesCall : Stage → Type 0
     GivesCall a = Result c IsGood a (flat.Stands u pc v xs)
@@ -278,8 +271,7 @@ module _ (c : Compiled) (IsGood : Bytes → Type 0) (right : IsCompiled c IsGood
         (le-leb (room_if true (Some fn) + rooms true p (frame ∷ xs)) (region_size m RuntimeCalls)
         (omega (arith, in_runtime, top))) in
         let called : flat.State = record v { turns = v.turns + 1; values = values; work = v.work + K.work } in
-        let n : parameters_of (function_in p f) ≡ parameters_end k =
-        (let none = no_area (result_of c.layout.expansion.code k) plain.result in let is = th.parameters in omega arith) in
+        let n : parameters_of (function_in p f) ≡ parameters_end k = th.parameters in
         let regs = arguments first (parameters_end k) values in
         let in_callee : flat.State = record called {
           values = regs;

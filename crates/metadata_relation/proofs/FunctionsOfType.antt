@@ -26,7 +26,7 @@ use Rattle.runtime_functions.specs.Library.{register_count}
 use Rattle.metadata_relation.specs.FunctionTypes.{first_of_type, type_key, object_units, room_told}
 use Rattle.metadata_relation.specs.Registers.{passed_as, parameter_words, parameters_end, total}
 use Rattle.metadata_relation.specs.Stages.{Compiled}
-use Rattle.metadata_relation.specs.Steps.{IsCompiled, are_scalar_calls, is_scalar_call}
+use Rattle.metadata_relation.specs.Steps.{IsCompiled, are_covered_calls, is_covered_call}
 use Rattle.metadata_relation.proofs.CallStates.{function_of}
 use Rattle.metadata_relation.proofs.FunctionTypes.{first_low, first_tells, kind_told, type_at}
 use Rattle.metadata_relation.proofs.Packing.{ways_of}
@@ -52,17 +52,17 @@ of_type : (a b : ℕ) (c : Bool) → a ≡ b → (not (a == b) || c) ≡ true �
 of_type a b c same e = ap (λ z. not z || c) (sym (eq-eqb a b same)) ∙ e
 
 pub plain_at : (t : Tac) (type : ℕ) (fs : List CodeFunction) (f : ℕ) (k : CodeFunction)
-    → are_scalar_calls t type fs ≡ true → slice_get fs f ≡ Some k → k.type_number ≡ type
-    → is_scalar_call t (Some k) ≡ true
+    → are_covered_calls t type fs ≡ true → slice_get fs f ≡ Some k → k.type_number ≡ type
+    → is_covered_call t (Some k) ≡ true
 plain_at t type [] f k e found same = cc
 plain_at t type (x ∷ fs) zero k e found same =
     let is = same_Some x k found in
-    subst (λ z. is_scalar_call t (Some z) ≡ true) is
-    (of_type x.type_number type (is_scalar_call t (Some x)) (ap (λ (z : CodeFunction). z.type_number) is ∙ same)
-    (and_parts (not (x.type_number == type) || is_scalar_call t (Some x)) (are_scalar_calls t type fs) e).0)
+    subst (λ z. is_covered_call t (Some z) ≡ true) is
+    (of_type x.type_number type (is_covered_call t (Some x)) (ap (λ (z : CodeFunction). z.type_number) is ∙ same)
+    (and_parts (not (x.type_number == type) || is_covered_call t (Some x)) (are_covered_calls t type fs) e).0)
 plain_at t type (x ∷ fs) (suc f) k e found same =
     plain_at t type fs f k
-    (and_parts (not (x.type_number == type) || is_scalar_call t (Some x)) (are_scalar_calls t type fs) e).1 found same
+    (and_parts (not (x.type_number == type) || is_covered_call t (Some x)) (are_covered_calls t type fs) e).1 found same
 
 pub passed_to : (type : ℕ) (vs : List Rvalue) (fs : List CodeFunction) (f : ℕ) (k : CodeFunction)
     → fit_type (map header_of_code fs) type vs ≡ true → slice_get fs f ≡ Some k → k.type_number ≡ type

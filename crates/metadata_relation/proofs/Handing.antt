@@ -47,17 +47,18 @@ use Rattle.metadata_plan.proofs.Flat.{Comes}
 use Rattle.metadata_plan.specs.Entries.{given}
 use Rattle.tac_ir.specs.Edges.{LeadsTo}
 use Rattle.flat_code.specs.Meaning.{at_instruction, step}
-use Rattle.metadata_relation.specs.Blocks.{objects_of_body, result_of, result_entry, pack}
+use Rattle.metadata_relation.specs.Blocks.{objects_of_body, result_of, result_code, pack}
 use Rattle.metadata_relation.specs.Holding.{IsHeldAt, IsPlain, is_pointer_type}
-use Rattle.metadata_relation.specs.Registers.{passed_as, parameters_end}
+use Rattle.metadata_relation.specs.Registers.{is_no_aggregate, passed_as, parameters_end}
 use Rattle.metadata_relation.specs.Registers.{variable_register, temporary_register}
 use Rattle.metadata_relation.specs.Registers.{moved_register, first_free}
 use Rattle.metadata_relation.specs.Scopes.{context_at, AreGood}
-use Rattle.metadata_relation.specs.Stages.{Compiled, map_of, views, names, world, activation, level}
+use Rattle.metadata_relation.specs.Stages.{Compiled, factor, map_of, views, names, world, activation, level}
 use Rattle.metadata_relation.specs.Stages.{IsAt}
-use Rattle.metadata_relation.specs.Steps.{IsCompiled, is_no_aggregate, are_scalars}
-use Rattle.metadata_relation.specs.Waiting.{IsWaitingAs}
+use Rattle.metadata_relation.specs.Steps.{IsCompiled, are_scalars}
+use Rattle.metadata_relation.specs.Waiting.{Awaits, IsWaitingAs}
 use Rattle.metadata_relation.proofs.Assigning.{assigned}
+use Rattle.metadata_relation.proofs.AwaitedResults.{awaits_on}
 use Rattle.metadata_relation.proofs.CallHolds.{waiting_holds}
 use Rattle.metadata_relation.proofs.CallStates.{entered_good}
 use Rattle.metadata_relation.proofs.Library.{assigned_behind}
@@ -69,7 +70,7 @@ use Rattle.metadata_relation.proofs.Setting.{place_is, no_tag_is, type_is}
 use Rattle.metadata_relation.proofs.Standing.{leaves_same, good_now, IsNode, fewer, Result}
 use Rattle.metadata_relation.proofs.Waiting.{CallerWaits, waits_at, waits_same}
 use Rattle.metadata_relation.proofs.EnteredBodies.{enters}
-use Rattle.metadata_relation.proofs.Entering.{call_stage, few_parameters, IsScalarCall}
+use Rattle.metadata_relation.proofs.Entering.{call_stage, few_parameters, IsCoveredCall}
 
 -- ---- what is handed over
 
@@ -173,7 +174,7 @@ module _ (c : Compiled) (IsGood : Bytes → Type 0) (right : IsCompiled c IsGood
   module _ (words : HasWords (flat.Stands u (c.layout.address u n) v xs)) (i : Instruction) (label : IsNode c u n h.code i)
       (d first count next cost : ℕ) (gives : given i ≡ Some d)
       (leads : LeadsTo i next) (low_result : d < most_temporaries h.code.code)
-      (lows : first + count ≤ most_temporaries h.code.code) (paid : 6 ≤ cost) where
+      (lows : first + count ≤ most_temporaries h.code.code) where
     abbrev pub waits : Waiting
     waits = record { function = u; node = next; place = d; caller = caller s; temps = temps }
 
@@ -185,7 +186,7 @@ module _ (c : Compiled) (IsGood : Bytes → Type 0) (right : IsCompiled c IsGood
 
     module _ (f line : ℕ) (k : CodeFunction) (found : code_in c.layout.expansion.code f ≡ Some k)
         (passed : are_passed (taken_by (header_of_code k)) (gathered temps first count) ≡ true)
-        (plain : IsScalarCall c IsGood right k)
+        (plain : IsCoveredCall c IsGood right k)
         (reads : (x : ℕ) → x < count → get_or (map (λ (z : Variable). z.kind) k.parameters) x Void ≡ OfScalar Pointer
         → c.layout.expansion.entries u n (first + x) ≡ true) where
       count_is : count ≡ length k.parameters
@@ -195,14 +196,16 @@ module _ (c : Compiled) (IsGood : Bytes → Type 0) (right : IsCompiled c IsGood
       moves = pack h.code (ways_of k.parameters) (moved_register h.code (5 * first)) first
 
       abbrev behind : List FlatInstruction
-      behind = result_entry (result_of c.layout.expansion.code k) (c.layout.expansion.entries u next d)
-          (temporary_register h.code d)
+      behind = result_code c.layout.expansion.code h.code (result_of c.layout.expansion.code k)
+          (c.layout.expansion.entries u next d) d
 
       module _ (call : FlatInstruction) (at_moves most : ℕ) (between : flat.Values)
           (has : HasAt (body_of (function_in c.layout.program u)) at_moves (moves ++ (call ∷ behind)))
           (leads_on : Leads (body_of (function_in c.layout.program u)) (at_moves + length moves + 1 + length behind)
           (c.layout.address u next))
-          (comes : ComesTo at_moves (record v { turns = v.turns + 1; values = between }) most) (cheap : most ≤ 100)
+          (comes : ComesTo at_moves (record v { turns = v.turns + 1; values = between }) most)
+          (cheap : most + 91 ≤ factor * (cost + 4))
+          (awaits : Awaits c.layout.expansion h.code waits (result_of c.layout.expansion.code k) between)
           (between_stays : (y : ℕ) → y < first_free h.code → between y ≡ v.values y)
           (fits : s.charged + k.room ≤ (map_of c).budgets.calls)
           (space : nat_le (objects_end (objects_of_body k) s.stacked) (stack_end c.setting) ≡ true)
@@ -226,6 +229,12 @@ module _ (c : Compiled) (IsGood : Bytes → Type 0) (right : IsCompiled c IsGood
         -- the arguments stand behind all temporaries
         pub stay : (y : ℕ) → y < moved_register h.code 0 → packed y ≡ v.values y
         stay y lt = are_there.below y (omega (arith, lt)) ∙ between_stays y (omega (arith, lt))
+
+        -- and before all that the block has for itself
+        behind_stay : (y : ℕ) → first_free h.code ≤ y → packed y ≡ between y
+        behind_stay y le =
+            let few = few_parameters c IsGood right k.parameters in
+            are_there.above y (let is = count_is in omega (arith, le, few, is, lows))
 
         -- what the program's state is good for
         state_good : IsGoodState (context_at (names c) u ws) (begun (spent cost s))
@@ -312,6 +321,8 @@ module _ (c : Compiled) (IsGood : Bytes → Type 0) (right : IsCompiled c IsGood
               into = refl;
               behind = (has_back body at_moves moves (call ∷ behind) has).1;
               leads = leads_on;
+              awaits = awaits_on c.layout.expansion h.code waits (result_of c.layout.expansion.code k) between packed
+                  behind_stay awaits;
               below = λ y o is. live_made s.objects o (h.holds.homes.homes y o is).live;
               holds = waiting_holds (views c) h.keys s.objects v.memory (activation c h.code u n s)
                   (c.layout.expansion.entries u next) (c.layout.expansion.contents u next) d temps s.plain s.frame v.values
@@ -357,7 +368,7 @@ module _ (c : Compiled) (IsGood : Bytes → Type 0) (right : IsCompiled c IsGood
               fits = fits;
               space = space;
               spare = spare;
-              work = omega (arith, count, ways, few, before, paid, cheap);
+              work = omega (arith, count, ways, few, before, cheap);
               stands = record {
                 for = record {
                   objects = h.stands.for.objects;

@@ -126,6 +126,7 @@ module _ (g : Views) (k k' : Keys) (old new : Objects) (m m' : Bytes) (on : Goes
         area_kept g k k' old c a m' on.held h.sound
         (area_same g k c a m m' (λ i lt. on.behind (a + i) (omega arith) (omega arith)) h.area_is);
     sound = sound_object_continues old new on.continues c h.sound;
+    tagged = sound_tag_continues g.functions old new on.continues v.tag h.tagged;
   }
     where
       by : (b : Bool) → b ≡ true → Stay r (count_of b) values after
@@ -247,6 +248,7 @@ module _ (g : Views) (k k' : Keys) (old new : Objects) (m m' : Bytes) (on : Goes
         small = h.small;
         area_is = h.area_is;
         sound = h.sound;
+        tagged = h.tagged;
       }
 
   pub variables_on : (plain : List Value) (values after : flat.Values)

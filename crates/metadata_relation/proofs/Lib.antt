@@ -2,11 +2,13 @@ pub mod Accesses
 pub mod Acting
 pub mod Altering
 pub mod AreaPlaces
+pub mod AreaRegisters
 pub mod AreaSteps
 pub mod AreasBeside
 pub mod AssignedContents
 pub mod AssignedStructures
 pub mod Assigning
+pub mod AwaitedResults
 pub mod Begins
 pub mod Behind
 pub mod BlockEndings
@@ -36,6 +38,7 @@ pub mod Homes
 pub mod Inline
 pub mod Laid
 pub mod Leaving
+pub mod LeftBodies
 pub mod LeftObjects
 pub mod Library
 pub mod LibraryArguments
@@ -60,6 +63,7 @@ pub mod Ranges
 pub mod ReadStructures
 pub mod Reading
 pub mod Registers
+pub mod ReturnedStructures
 pub mod Returns
 pub mod RoomTests
 pub mod Routines
@@ -75,6 +79,7 @@ pub mod Statics
 pub mod Statuses
 pub mod StoredParameters
 pub mod StoredParts
+pub mod StoredStructures
 pub mod StoredTexts
 pub mod TakenStructures
 pub mod ToldEndings

@@ -5,6 +5,7 @@ use Rattle.std.proofs.Common.{Option, None, true≢false}
 use Rattle.std.specs.Prelude.{slice_get, ◌&&◌, ◌||◌}
 use Rattle.std.proofs.lemmas.Bool.{eqb-true}
 use Rattle.addr_map.specs.Places.{MapSizes}
+use Rattle.obj_memory.proofs.Judging.{sound_narrowed}
 use Rattle.obj_memory.specs.declared.value.Value.{Value}
 use Rattle.obj_memory.specs.Judgement.{narrowed}
 use Rattle.obj_memory.specs.Objects.{ObjectState}
@@ -296,6 +297,7 @@ module _ (c : Compiled) (IsGood : Bytes → Type 0) (right : IsCompiled c IsGood
               small = held.small;
               area_is = held.area_is;
               sound = held.sound;
+              tagged = sound_narrowed (views c).functions s.objects offset size (temps a).value held.tagged;
             };
             none = λ e. absurd (true≢false (sym may ∙ e));
           }) le)

@@ -53,15 +53,18 @@ assigned_append (i ∷ a) b e values = cc
 pub record IsPlacedIn (into from count : ℕ) (values after : flat.Values) : Type 0 where
   pub at : (j : ℕ) → j < count → after (into + j) ≡ values (from + j)
   pub below : (y : ℕ) → y < into → after y ≡ values y
+  pub above : (y : ℕ) → into + count ≤ y → after y ≡ values y
 
 pub value_packed : (p : Passed) (r a : ℕ) (values : flat.Values) → a + 5 ≤ r
     → IsPlacedIn r a (register_count p) values (assigned (pack_value p r a) values)
-value_packed NoValue r a values low = record { at = λ j lt. absurd (omega arith); below = λ y lt. refl }
+value_packed NoValue r a values low =
+    record { at = λ j lt. absurd (omega arith); below = λ y lt. refl; above = λ y le. refl }
 value_packed OneWord r a values low = record {
   at = λ j lt. (let z : j ≡ 0 = omega arith in
       ap (λ k. put values r (values a) (r + k)) z ∙ ap (put values r (values a)) (omega arith)
       ∙ put_same values r (values a) ∙ ap values (omega arith) ∙ ap (λ k. values (a + k)) (sym z));
   below = λ y lt. put_other values r (values a) y (λ e. omega arith);
+  above = λ y le. put_other values r (values a) y (λ e. omega arith);
 }
 value_packed WithEntry r a values low =
     let z = moved r a values (inr (inr low)) in
@@ -69,6 +72,7 @@ value_packed WithEntry r a values low =
       at = λ j lt. five j lt (assigned (pack_value WithEntry r a) values) z.value
           (ap (λ m. m.base) z.entry) (ap (λ m. m.bound) z.entry) (ap (λ m. m.key) z.entry) (ap (λ m. m.lock) z.entry);
       below = λ y lt. z.others y (inl lt);
+      above = λ y le. z.others y (inr le);
     }
   where
     five : (j : ℕ) → j < 5 → (after : flat.Values) → after r ≡ values a → after (r + 1) ≡ values (a + 1)
@@ -115,11 +119,12 @@ pub record ArePacked (c : CodeFunction) (ps vs : List Variable) (into temporary 
     pub at : (x j : ℕ) → x < length ps → j < words_at ps x
         → after (into + (register_in ps vs x + j)) ≡ values (temporary_register c (temporary + x) + j)
     pub below : (y : ℕ) → y < into → after y ≡ values y
+    pub above : (y : ℕ) → into + total parameter_words ps ≤ y → after y ≡ values y
 
 pub are_packed : (c : CodeFunction) (ps vs : List Variable) (r d : ℕ) (values : flat.Values)
     → d + length ps ≤ most_temporaries c.code → moved_register c 0 ≤ r
     → ArePacked c ps vs r d values (assigned (pack c (ways_of ps) r d) values)
-are_packed c [] vs r d values low above = record { at = λ x j lt few. absurd (omega arith); below = λ y lt. refl }
+are_packed c [] vs r d values low above = record { at = λ x j lt few. absurd (omega arith); below = λ y lt. refl; above = λ y le. refl }
 are_packed c (p ∷ ps) vs r d values low above =
     let first = pack_value (passed_as p.kind) r (temporary_register c d) in
     let rest = pack c (ways_of ps) (r + parameter_words p) (d + 1) in
@@ -131,6 +136,7 @@ are_packed c (p ∷ ps) vs r d values low above =
     (record {
       at = λ x j lt few. by (assigned rest between) between one more x j lt few;
       below = λ y lt. more.below y (omega arith) ∙ one.below y lt;
+      above = λ y le. more.above y (omega arith) ∙ one.above y (omega arith);
     })
   where
     by : (after between : flat.Values)

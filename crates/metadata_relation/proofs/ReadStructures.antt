@@ -171,6 +171,7 @@ module _ (c : Compiled) (IsGood : Bytes → Type 0) (right : IsCompiled c IsGood
               small = held.small;
               area_is = held.area_is;
               sound = held.sound;
+              tagged = held.tagged;
             };
             none = λ e. absurd (true≢false (sym may ∙ e));
           }) le)

@@ -31,7 +31,7 @@ use Rattle.metadata_plan.specs.Entries.{IsOther, given, AreClosed}
 use Rattle.metadata_plan.specs.Expanded.{Leads}
 use Rattle.metadata_relation.specs.Contents.{AreKept}
 use Rattle.metadata_relation.specs.Steps.{IsCompiled}
-use Rattle.metadata_relation.specs.Registers.{parameters_end, result_words, area_words, variables_end, homes_end}
+use Rattle.metadata_relation.specs.Registers.{parameters_end, result_words, variables_end, homes_end}
 use Rattle.metadata_relation.specs.Blocks.{Expansion, prologue, result_of}
 use Rattle.metadata_relation.specs.Holding.{Holds}
 use Rattle.metadata_relation.specs.Scopes.{Names, context_at, AreGoodBy, AreGood}
@@ -56,7 +56,7 @@ pub record IsThere (e : Expansion) (u : ℕ) (c : CodeFunction) (address : ℕ �
     pub begins : Leads (body_of q) (length (prologue e c)) (address c.entry)
     pub room : room_if false q ≡ c.room
     pub no_room : room_if true q ≡ 0
-    pub parameters : parameters_of q ≡ parameters_end c + area_words (result_of e.code c)
+    pub parameters : parameters_of q ≡ parameters_end c
     pub results : results_of q ≡ result_words (result_of e.code c)
 
 pub there_by : (e : Expansion) (u : ℕ) (c : CodeFunction) (address : ℕ → ℕ) (q : Option FlatFunction)

@@ -43,9 +43,10 @@ use Rattle.metadata_plan.specs.Registers.{all_variables}
 use Rattle.metadata_plan.proofs.Calling.{first_is, rest_at}
 use Rattle.metadata_relation.specs.Blocks.{held_scalar, store_parameter, store_parameters}
 use Rattle.metadata_relation.specs.Holding.{GoesOn, HasHomes, is_object_in, is_pointer_type, IsHeldAt}
-use Rattle.metadata_relation.specs.Registers.{first_free, home_register, variable_register, variables_end}
+use Rattle.metadata_relation.specs.Registers.{first_free, home_register, is_no_aggregate, variable_register}
+use Rattle.metadata_relation.specs.Registers.{variables_end}
 use Rattle.metadata_relation.specs.Stages.{Compiled, map_of, views, world}
-use Rattle.metadata_relation.specs.Steps.{are_scalars, is_no_aggregate, IsCompiled}
+use Rattle.metadata_relation.specs.Steps.{are_scalars, IsCompiled}
 use Rattle.metadata_relation.proofs.Accesses.{behind_write, stored}
 use Rattle.metadata_relation.proofs.Acting.{Reached, reached_here, reached_then}
 use Rattle.metadata_relation.proofs.Holding.{held_on, homes_on, same_world}
@@ -133,7 +134,7 @@ module _ (c : Compiled) (IsGood : Bytes → Type 0) (right : IsCompiled c IsGood
     pub others : (r : ℕ) → r < first_free code → after.values r ≡ v.values r
 
   abbrev list : (variable : ℕ) → List Variable → List FlatInstruction
-  list x ps = store_parameters c.layout.expansion.inline code x ps
+  list x ps = store_parameters c.layout.expansion.inline c.layout.expansion.code code x ps
 
   -- ---- a parameter that is no object
 
@@ -183,7 +184,7 @@ module _ (c : Compiled) (IsGood : Bytes → Type 0) (right : IsCompiled c IsGood
         → AreStored (p ∷ ps) n arguments pc keys z v (pc + length (list x (p ∷ ps))) (60 * length (p ∷ ps))
     skips e r =
         let list_is : list (suc x) ps ≡ list x (p ∷ ps) =
-        ap (λ b. (if b then store_parameter c.layout.expansion.inline code p.kind x else []) ++ list (suc x) ps) (sym e) in
+        ap (λ b. (if b then store_parameter c.layout.expansion.inline c.layout.expansion.code code p.kind x else []) ++ list (suc x) ps) (sym e) in
         let k = r.reached in
         let few = k.few in
         let reached : Reached (map_of c) c.layout.program u pc v xs (pc + length (list (suc x) ps)) r.after
@@ -211,10 +212,10 @@ module _ (c : Compiled) (IsGood : Bytes → Type 0) (right : IsCompiled c IsGood
 
     module _ (e : p.is_object ≡ true) (k : Scalar) (kind : p.kind ≡ OfScalar k)
         (again : (pc' : ℕ) (keys' : Keys) (z' : State) (v' : flat.State)
-        → HasAt (body_of (function_in c.layout.program u)) pc' (store_parameters c.layout.expansion.inline code (suc x) ps)
+        → HasAt (body_of (function_in c.layout.program u)) pc' (store_parameters c.layout.expansion.inline c.layout.expansion.code code (suc x) ps)
         → AreToStore ps (suc x) (n + 1) (rest_of arguments) keys' z' v'
         → AreStored ps (n + 1) (rest_of arguments) pc' keys' z' v'
-        (pc' + length (store_parameters c.layout.expansion.inline code (suc x) ps)) (60 * length ps)) where
+        (pc' + length (store_parameters c.layout.expansion.inline c.layout.expansion.code code (suc x) ps)) (60 * length ps)) where
       abbrev H : ℕ
       H = home_register code x
 
@@ -260,8 +261,8 @@ module _ (c : Compiled) (IsGood : Bytes → Type 0) (right : IsCompiled c IsGood
 
       list_is : list x (p ∷ ps) ≡ stores ++ list (suc x) ps
       list_is =
-          ap (λ b. (if b then store_parameter c.layout.expansion.inline code p.kind x else []) ++ list (suc x) ps) e
-          ∙ ap (λ i. store_parameter c.layout.expansion.inline code i x ++ list (suc x) ps) kind
+          ap (λ b. (if b then store_parameter c.layout.expansion.inline c.layout.expansion.code code p.kind x else []) ++ list (suc x) ps) e
+          ∙ ap (λ i. store_parameter c.layout.expansion.inline c.layout.expansion.code code i x ++ list (suc x) ps) kind
 
       cheap : 2 * store_steps (held_scalar k (variable_register code x)) ≤ 60
       cheap = by k
@@ -339,9 +340,9 @@ module _ (c : Compiled) (IsGood : Bytes → Type 0) (right : IsCompiled c IsGood
 
   pub parameters_stored : (ps : List Variable) (x n : ℕ) (arguments : List Rvalue) (pc : ℕ) (keys : Keys) (z : State)
       (v : flat.State)
-      → HasAt (body_of (function_in c.layout.program u)) pc (store_parameters c.layout.expansion.inline code x ps)
+      → HasAt (body_of (function_in c.layout.program u)) pc (store_parameters c.layout.expansion.inline c.layout.expansion.code code x ps)
       → AreToStore ps x n arguments keys z v
-      → AreStored ps n arguments pc keys z v (pc + length (store_parameters c.layout.expansion.inline code x ps))
+      → AreStored ps n arguments pc keys z v (pc + length (store_parameters c.layout.expansion.inline c.layout.expansion.code code x ps))
       (60 * length ps)
   parameters_stored [] x n arguments pc keys z v has h =
       let place : pc ≡ pc + 0 = omega arith in
@@ -372,7 +373,7 @@ module _ (c : Compiled) (IsGood : Bytes → Type 0) (right : IsCompiled c IsGood
           → AreStored (p ∷ ps) n arguments pc keys z v (pc + length (list x (p ∷ ps))) (60 * length (p ∷ ps))
       by again false e =
           let has_rest = subst (HasAt (body_of (function_in c.layout.program u)) pc)
-          (ap (λ b. (if b then store_parameter c.layout.expansion.inline code p.kind x else []) ++ list (suc x) ps) e) has in
+          (ap (λ b. (if b then store_parameter c.layout.expansion.inline c.layout.expansion.code code p.kind x else []) ++ list (suc x) ps) e) has in
           skips p ps x n arguments pc keys z v h e
           (again n pc keys z v has_rest
           (others_at p ps x n arguments pc keys z v h false e keys z v h.words h.stands

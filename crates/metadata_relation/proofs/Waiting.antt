@@ -36,7 +36,7 @@ use Rattle.metadata_relation.proofs.Holding.{homes_on, holds_on, same_world}
 abbrev pub CallerWaits : World → State → Layout → (first_stacked : ℕ) → (callee : CodeFunction) → (outer mark : ℕ)
     → List Frame → List flat.Frame → Type 0
 CallerWaits w s l first k outer mark [] [] = ⊥
-CallerWaits w s l first k outer mark [] (x ∷ []) = (outer ≡ first) × EntryWaits l x
+CallerWaits w s l first k outer mark [] (x ∷ []) = (outer ≡ first) × EntryWaits l k x
 CallerWaits w s l first k outer mark [] (x ∷ y ∷ xs) = ⊥
 CallerWaits w s l first k outer mark (Entered n b ∷ ws) xs = ⊥
 CallerWaits w s l first k outer mark (Waits a ∷ ws) [] = ⊥
@@ -138,6 +138,7 @@ module _ (g : Views) (k k' : Keys) (s s' : State) (m m' : Bytes) (l : Layout) (f
     into = h.into;
     behind = h.behind;
     leads = h.leads;
+    awaits = h.awaits;
     below = h.below;
     holds = holds_on g k k' s.objects s'.objects m m' on (record {
       tac = l.expansion.code;

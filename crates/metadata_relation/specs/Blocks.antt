@@ -78,8 +78,9 @@ use Rattle.metadata_relation.specs.Contents.{Contents}
 use Rattle.metadata_relation.specs.FunctionTypes.{first_of_type}
 use Rattle.metadata_relation.specs.InlineCode.{InlineCode}
 use Rattle.metadata_relation.specs.Printing.{print_code, scan_statuses}
-use Rattle.metadata_relation.specs.Structures.{has_area, put_code, take_structure_code, zero_structure_code}
-use Rattle.metadata_relation.specs.Registers.{passed_as, parameters_end, area_words, result_words, variable_words}
+use Rattle.metadata_relation.specs.Structures.{await_code, has_area, put_code, receive_code, store_structure_code}
+use Rattle.metadata_relation.specs.Structures.{take_structure_code, zero_structure_code}
+use Rattle.metadata_relation.specs.Registers.{passed_as, parameters_end, result_words, variable_words}
 use Rattle.metadata_relation.specs.Registers.{total}
 use Rattle.metadata_relation.specs.Registers.{variable_register, home_register, home_entry, lock_register, top_register}
 use Rattle.metadata_relation.specs.Registers.{temporary_register, moved_register, first_free}
@@ -534,29 +535,35 @@ objects_of_body c = body_objects (header_of_code c)
 abbrev pub result_of : Tac → CodeFunction → Kind
 result_of t c = get_or t.results c.type_number Void
 
--- an entry that is not handed over is that of no pointer
-abbrev pub result_entry : Kind → (with_entry : Bool) → (register : ℕ) → List FlatInstruction
-result_entry (OfScalar Pointer) b d = []
-result_entry k b d = untagged b d
+-- before a call whose result is a structure registers get what is needed to move it
+abbrev pub await_result : OperatorCode → MapSizes → Tac → CodeFunction → Kind → (temporary : ℕ) → List FlatInstruction
+await_result o m t c (Structure size) d = await_code o m t c size d (first_free c)
+await_result o m t c k d = []
+
+-- behind it: an entry that is not handed over is that of no pointer, and a structure is moved to the area of its temporary
+abbrev pub result_code : Tac → CodeFunction → Kind → (with_entry : Bool) → (temporary : ℕ) → List FlatInstruction
+result_code t c (OfScalar Pointer) b d = []
+result_code t c (Structure size) b d = receive_code (runtime_number t) b (temporary_register c d) (first_free c)
+result_code t c k b d = untagged b (temporary_register c d)
 
 -- The tests of a call stand before it, at its line: of the charge, of the object stack and of the keys, in this order. So
 -- the function of the callee is always entered, and knows no line.
-abbrev pub call_code : MapSizes → Tac → CodeFunction → (callee : CodeFunction) → (function line first : ℕ)
-    → (with_entry : Bool) → List FlatInstruction
-call_code m t c callee f line d b =
+abbrev pub call_code : OperatorCode → MapSizes → Tac → CodeFunction → (callee : CodeFunction)
+    → (function line first : ℕ) → (with_entry : Bool) → List FlatInstruction
+call_code o m t c callee f line d b =
     let s = first_free c in
     call_tests m callee.room line s
     ++ (object_tests m (objects_of_body callee) line s
+    ++ (await_result o m t c (result_of t callee) d
     ++ (pack c (map (λ v. passed_as v.kind) callee.parameters) (moved_register c (5 * d)) d
-    ++ (Call f (moved_register c (5 * d)) (temporary_register c d)
-    ∷ result_entry (result_of t callee) b (temporary_register c d))))
+    ++ (Call f (moved_register c (5 * d)) (temporary_register c d) ∷ result_code t c (result_of t callee) b d))))
 
 -- of a function that is not there the call ends the run, and one with other arguments is never reached
-abbrev pub call_of : MapSizes → Tac → CodeFunction → Option CodeFunction → (function line first count : ℕ)
-    → (with_entry : Bool) → List FlatInstruction
-call_of m t c None f line d n b = End (BadCallAt line) ∷ []
-call_of m t c (Some callee) f line d n b =
-    if length callee.parameters == n then call_code m t c callee f line d b else End (AbortAt line) ∷ []
+abbrev pub call_of : OperatorCode → MapSizes → Tac → CodeFunction → Option CodeFunction
+    → (function line first count : ℕ) → (with_entry : Bool) → List FlatInstruction
+call_of o m t c None f line d n b = End (BadCallAt line) ∷ []
+call_of o m t c (Some callee) f line d n b =
+    if length callee.parameters == n then call_code o m t c callee f line d b else End (AbortAt line) ∷ []
 
 -- ---- calls through pointers
 
@@ -610,25 +617,26 @@ unknown_object_tests m key line s =
 -- What stands before a call by name stands before one through a pointer, once it is known that the callee is of the type.
 -- All functions of a type take and give values of the same kinds, those of one of them; arguments stand behind the
 -- pointer.
-abbrev pub through_code : MapSizes → Tac → CodeFunction → (one : CodeFunction) → (kind line first : ℕ)
-    → (with_entry : Bool) → List FlatInstruction
-through_code m t c one kind line d b =
+abbrev pub through_code : OperatorCode → MapSizes → Tac → CodeFunction → (one : CodeFunction)
+    → (kind line first : ℕ) → (with_entry : Bool) → List FlatInstruction
+through_code o m t c one kind line d b =
     let s = first_free c in
     let r = temporary_register c d in
     let q = moved_register c (5 * (d + 1)) in
     callee_tests kind line r s
     ++ (room_tests m (held_from r).tag.key line s
     ++ (unknown_object_tests m (held_from r).tag.key line s
+    ++ (await_result o m t c (result_of t one) d
     ++ (pack c (map (λ v. passed_as v.kind) one.parameters) q (d + 1)
-    ++ (CallAddress r q (parameters_end one + area_words (result_of t one)) r (result_words (result_of t one))
-    ∷ result_entry (result_of t one) b r))))
+    ++ (CallAddress r q (parameters_end one) r (result_words (result_of t one))
+    ∷ result_code t c (result_of t one) b d)))))
 
 -- where no function has the type no call is one, and one with other arguments is never reached
-abbrev pub through_of : MapSizes → Tac → CodeFunction → Option CodeFunction → (kind line first count : ℕ)
-    → (with_entry : Bool) → List FlatInstruction
-through_of m t c None kind line d n b = End (BadCallAt line) ∷ []
-through_of m t c (Some one) kind line d n b =
-    if length one.parameters == n then through_code m t c one kind line d b else End (AbortAt line) ∷ []
+abbrev pub through_of : OperatorCode → MapSizes → Tac → CodeFunction → Option CodeFunction
+    → (kind line first count : ℕ) → (with_entry : Bool) → List FlatInstruction
+through_of o m t c None kind line d n b = End (BadCallAt line) ∷ []
+through_of o m t c (Some one) kind line d n b =
+    if length one.parameters == n then through_code o m t c one kind line d b else End (AbortAt line) ∷ []
 
 -- ---- the block of an instruction
 
@@ -716,10 +724,10 @@ block e u c (tac.Print x line d n m) =
     (pieces_or_none (pieces (text_in e.code x))) d
     ++ untagged (e.entries u m d) (temporary_register c d)
 block e u c (tac.Call f line d n m) =
-    call_of e.map e.code c (function_in e.code f) f line d n (e.entries u m d)
+    call_of e.inline.operators e.map e.code c (function_in e.code f) f line d n (e.entries u m d)
 block e u c (tac.CallThrough type_number line d n m) =
     let kind = first_of_type e.code.functions type_number in
-    through_of e.map e.code c (slice_get e.code.functions kind) kind line d n (e.entries u m d)
+    through_of e.inline.operators e.map e.code c (slice_get e.code.functions kind) kind line d n (e.entries u m d)
 block e u c (tac.EnterBlock b line m) =
     enter_code e.inline.operators e.map e.code c (objects_in (Some c) b) line
 block e u c (tac.LeaveBlock b m) = leave_code e.inline e.map c (objects_in (Some c) b)
@@ -740,20 +748,22 @@ abbrev pub zero_variables : CodeFunction → List FlatInstruction
 zero_variables c = zeros (parameters_end c + 1) (total variable_words c.variables)
 
 -- a parameter that is an object gets its argument, by an access
-abbrev pub store_parameter : InlineCode → CodeFunction → Kind → (variable : ℕ) → List FlatInstruction
-store_parameter i c (OfScalar k) x =
+abbrev pub store_parameter : InlineCode → Tac → CodeFunction → Kind → (variable : ℕ) → List FlatInstruction
+store_parameter i t c (OfScalar k) x =
     i.store (home_register c x) (held_scalar k (variable_register c x)) (first_free c)
-store_parameter i c kind x = End (AbortAt 1) ∷ []
+store_parameter i t c (Structure size) x =
+    store_structure_code i.operators (runtime_number t) size (home_register c x) (variable_register c x) (first_free c)
+store_parameter i t c kind x = End (AbortAt 1) ∷ []
 
-abbrev pub store_parameters : InlineCode → CodeFunction → (variable : ℕ) → List Variable → List FlatInstruction
-store_parameters i c x [] = []
-store_parameters i c x (v ∷ vs) =
-    (if v.is_object then store_parameter i c v.kind x else []) ++ store_parameters i c (suc x) vs
+abbrev pub store_parameters : InlineCode → Tac → CodeFunction → (variable : ℕ) → List Variable → List FlatInstruction
+store_parameters i t c x [] = []
+store_parameters i t c x (v ∷ vs) =
+    (if v.is_object then store_parameter i t c v.kind x else []) ++ store_parameters i t c (suc x) vs
 
 abbrev pub enter_body : Expansion → CodeFunction → List FlatInstruction
 enter_body e c =
     enter_code e.inline.operators e.map e.code c (objects_of_body c) c.line
-    ++ store_parameters e.inline c 0 c.parameters
+    ++ store_parameters e.inline e.code c 0 c.parameters
 
 -- Every plain variable but a parameter is 0, so that no value but an argument is needed where a function is entered; then
 -- the objects of its body are made, for which its caller has tested that there is room.

@@ -17,7 +17,7 @@ use Rattle.metadata_plan.specs.Entries.{AreAllClosed}
 use Rattle.metadata_plan.specs.Expanded.{Leads, LeadOn}
 use Rattle.metadata_relation.specs.Contents.{AreKept}
 use Rattle.metadata_relation.specs.FunctionTypes.{HaveTypeKeys}
-use Rattle.metadata_relation.specs.Registers.{parameters_end, result_words, area_words}
+use Rattle.metadata_relation.specs.Registers.{parameters_end, result_words}
 use Rattle.metadata_relation.specs.Blocks.{Expansion, block, prologue, entry_code, result_of, runtime_number}
 use Rattle.metadata_relation.specs.Waiting.{Layout}
 
@@ -30,7 +30,7 @@ pub record IsPut (e : Expansion) (function : ℕ) (c : CodeFunction) (body : Lis
 -- a function and its expansion, with the place of each node's block
 pub record IsExpandedFunction (e : Expansion) (function : ℕ) (c : CodeFunction) (address : ℕ → ℕ) (f : FlatFunction)
     : Type 0 where
-  pub parameters : f.parameters ≡ parameters_end c + area_words (result_of e.code c)
+  pub parameters : f.parameters ≡ parameters_end c
   pub results : f.results ≡ result_words (result_of e.code c)
   pub room : f.room ≡ c.room
   pub of_program : f.is_runtime ≡ false

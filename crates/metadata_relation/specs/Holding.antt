@@ -83,6 +83,7 @@ pub record IsContentsAt (w : World) (with_entry : Bool) (v : Value) (contents : 
   pub small : contents.size ≤ greatest
   pub area_is : IsArea w.views w.keys contents area w.memory
   pub sound : IsSoundObject w.views.functions w.objects contents
+  pub tagged : IsSoundTag w.views.functions w.objects v.tag
 
 abbrev pub IsRvalueAt : World → (with_entry : Bool) → Value → Option ObjectState → (greatest area register : ℕ)
     → Values → Type 0

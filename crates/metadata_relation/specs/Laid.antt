@@ -7,14 +7,14 @@ use Rattle.tac_ir.specs.declared.function.Tac.{Tac}
 use Rattle.flat_code.specs.declared.function.FlatFunction.{FlatFunction}
 use Rattle.flat_code.specs.declared.function.FlatProgram.{FlatProgram}
 use Rattle.metadata_plan.specs.Laid.{place_of, body_of}
-use Rattle.metadata_relation.specs.Registers.{parameters_end, area_words, result_words}
+use Rattle.metadata_relation.specs.Registers.{parameters_end, result_words}
 use Rattle.metadata_relation.specs.Blocks.{Expansion, block, prologue, entry_code, result_of}
 use Rattle.metadata_relation.specs.Waiting.{Layout}
 
 -- a function of the text, with homes of its virtual registers
 abbrev pub function_of : Expansion → (function : ℕ) → CodeFunction → (homes : List ℕ) → FlatFunction
 function_of e u c homes = record {
-  parameters = parameters_end c + area_words (result_of e.code c);
+  parameters = parameters_end c;
   results = result_words (result_of e.code c);
   room = c.room;
   is_runtime = false;

@@ -1,7 +1,7 @@
 -- The virtual registers of a function of any program, in this order: its parameters, the first of which get its
 -- arguments; its other plain variables; the homes of its variables that are objects; its temporaries; arguments of calls;
 -- and from the first free one on what a block needs for itself.
-use Rattle.std.specs.Prelude.{ℕ, zero, suc, ◌+◌, ◌*◌, if◌then◌else◌, List, [], ◌∷◌}
+use Rattle.std.specs.Prelude.{ℕ, zero, suc, ◌+◌, ◌*◌, Bool, true, false, if◌then◌else◌, List, [], ◌∷◌}
 use Rattle.obj_memory.specs.declared.value.Scalar.TheVariants.{Integer, Pointer}
 use Rattle.c_tree.specs.declared.expression.Kind.{Kind}
 use Rattle.c_tree.specs.declared.expression.Kind.TheVariants.{Void, Scalar as OfScalar, Structure, Array}
@@ -26,15 +26,17 @@ passed_as (OfScalar Pointer) = WithEntry
 passed_as (Structure n) = WithEntry
 passed_as (Array n) = OneWord
 
--- so a result, but of a structure, whose contents are put into an area of the caller
+-- so a result, but of a structure, whose contents stay in the area of the callee until the caller moves them to its own
 abbrev pub result_words : Kind → ℕ
 result_words (Structure n) = 0
 result_words k = register_count (passed_as k)
 
--- for which the caller hands over where it begins, behind all arguments
-abbrev pub area_words : Kind → ℕ
-area_words (Structure n) = 1
-area_words k = 0
+-- a scalar, or no value
+abbrev pub is_no_aggregate : Kind → Bool
+is_no_aggregate Void = true
+is_no_aggregate (OfScalar k) = true
+is_no_aggregate (Structure n) = false
+is_no_aggregate (Array n) = false
 
 -- a parameter stands where its argument comes, also one that is an object
 abbrev pub parameter_words : Variable → ℕ
@@ -61,7 +63,7 @@ before words (suc x) (v ∷ vs) = words v + before words x vs
 
 -- ---- variables
 
--- the words of the arguments; behind them the address of the area for a result that is a structure
+-- the words of the arguments; behind them is a register that nothing uses
 abbrev pub parameters_end : CodeFunction → ℕ
 parameters_end c = total parameter_words c.parameters
 

@@ -30,6 +30,7 @@ use Rattle.tac_ir.specs.declared.function.Tac.{Tac}
 use Rattle.tac_ir.specs.Fitting.{is_word}
 use Rattle.tac_ir.specs.Meaning.{function_in, header_of_code, objects_before, objects_in, text_in}
 use Rattle.tac_ir.specs.Stage.{Stage}
+use Rattle.tac_ir.specs.Structures.{result_of_type}
 use Rattle.flat_code.specs.Memory.{Bytes}
 use Rattle.flat_code.specs.State as flat
 use Rattle.flat_code.specs.Routines.Metadata.{IsObjectWord, KeepsShadow}
@@ -39,6 +40,7 @@ use Rattle.metadata_plan.specs.Registers.{all_variables}
 use Rattle.metadata_relation.specs.Blocks.{is_short, objects_of_body, result_of}
 use Rattle.metadata_relation.specs.InlineCode.{IsInlineCode}
 use Rattle.metadata_relation.specs.Expanded.{IsExpanded}
+use Rattle.metadata_relation.specs.Registers.{is_no_aggregate}
 use Rattle.metadata_relation.specs.Structures.{HaveAreas}
 use Rattle.metadata_relation.specs.Stages.{Compiled, map_of, Matches}
 
@@ -69,13 +71,6 @@ pub record IsCompiled (c : Compiled) (IsGood : Bytes → Type 0) : Type 0 where
 abbrev pub is_scalar_type : Option Scalar → Bool
 is_scalar_type None = false
 is_scalar_type (Some k) = true
-
--- a scalar, or no value
-abbrev pub is_no_aggregate : Kind → Bool
-is_no_aggregate Void = true
-is_no_aggregate (OfScalar k) = true
-is_no_aggregate (Structure n) = false
-is_no_aggregate (Array n) = false
 
 -- a structure has a byte at least
 abbrev pub is_sized : Kind → Bool
@@ -170,26 +165,52 @@ are_scalars (v ∷ vs) = is_no_aggregate v.kind && are_scalars vs
 abbrev pub can_enter_body : List Variable → Bool
 can_enter_body vs = not (has_objects vs) || can_be_entered vs
 
--- a function that takes scalars and gives one, or no value
-abbrev pub is_scalar_call : Tac → Option CodeFunction → Bool
-is_scalar_call t None = true
-is_scalar_call t (Some k) =
-    (can_enter_body (objects_of_body k) && are_scalars k.parameters) && is_no_aggregate (result_of t k)
+-- an array is never handed over as a result
+abbrev pub is_result : Kind → Bool
+is_result Void = true
+is_result (OfScalar k) = true
+is_result (Structure n) = true
+is_result (Array n) = false
+
+-- a function that takes scalars
+abbrev pub is_covered_call : Tac → Option CodeFunction → Bool
+is_covered_call t None = true
+is_covered_call t (Some k) =
+    (can_enter_body (objects_of_body k) && are_scalars k.parameters) && is_result (result_of t k)
 
 -- so is each function of a type
-abbrev pub are_scalar_calls : Tac → (type_number : ℕ) → List CodeFunction → Bool
-are_scalar_calls t type_number [] = true
-are_scalar_calls t type_number (k ∷ ks) =
-    (not (k.type_number == type_number) || is_scalar_call t (Some k)) && are_scalar_calls t type_number ks
+abbrev pub are_covered_calls : Tac → (type_number : ℕ) → List CodeFunction → Bool
+are_covered_calls t type_number [] = true
+are_covered_calls t type_number (k ∷ ks) =
+    (not (k.type_number == type_number) || is_covered_call t (Some k)) && are_covered_calls t type_number ks
 
--- so is `main`, which takes nothing (C99 5.1.2.2.1)
-abbrev pub is_scalar_main : Tac → Option CodeFunction → Bool
-is_scalar_main t None = false
-is_scalar_main t (Some k) = is_scalar_call t (Some k) && length k.parameters == 0
+-- so is `main`, which takes nothing and gives a scalar (C99 5.1.2.2.1)
+abbrev pub is_covered_main : Tac → Option CodeFunction → Bool
+is_covered_main t None = false
+is_covered_main t (Some k) =
+    (is_covered_call t (Some k) && is_no_aggregate (result_of t k)) && length k.parameters == 0
 
-abbrev pub gives_scalar : Tac → Option CodeFunction → Bool
-gives_scalar t None = true
-gives_scalar t (Some k) = is_no_aggregate (result_of t k)
+-- a structure, which has a byte, is given as the first temporary, whose area begins where those of its function do
+abbrev pub gives_from : Kind → (temporary : ℕ) → Bool
+gives_from Void a = true
+gives_from (OfScalar k) a = true
+gives_from (Structure n) a = a == 0 && nat_le 1 n
+gives_from (Array n) a = false
+
+abbrev pub is_covered_return : Tac → Option CodeFunction → (temporary : ℕ) → Bool
+is_covered_return t None a = true
+is_covered_return t (Some k) a = gives_from (result_of t k) a
+
+-- a structure that a call gives comes to a temporary that may have contents
+abbrev pub comes_to : Kind → (may_have : Bool) → Bool
+comes_to Void may = true
+comes_to (OfScalar k) may = true
+comes_to (Structure n) may = may
+comes_to (Array n) may = true
+
+abbrev pub result_comes_to : Tac → Option CodeFunction → (may_have : Bool) → Bool
+result_comes_to t None may = true
+result_comes_to t (Some k) may = comes_to (result_of t k) may
 
 -- what stands in a format is bytes
 abbrev pub have_bytes : List Piece → Bool
@@ -197,18 +218,20 @@ have_bytes [] = true
 have_bytes (piece.Byte b ∷ ps) = nat_lt b 256 && have_bytes ps
 have_bytes (piece.Directive d ∷ ps) = have_bytes ps
 
--- What is asked of the node besides: where a structure is put into a temporary, this one may have contents; and a function
--- takes scalars and gives one.
+-- What is asked of the node besides: where a structure is put into a temporary, this one may have contents; a function takes
+-- scalars; and a structure is given as the first temporary.
 abbrev pub admits : Compiled → (function node : ℕ) → Instruction → Bool
 admits c u n (tac.ZeroOf (Structure size) d m) = c.layout.expansion.contents u m d
 admits c u n (tac.Take kind line d a m) = c.layout.expansion.contents u m d
 admits c u n (tac.Print x line d count m) =
     have_bytes (pieces_or_none (pieces (text_in c.layout.expansion.code x)))
 admits c u n (tac.Call f line d count m) =
-    is_scalar_call c.layout.expansion.code (function_in c.layout.expansion.code f)
+    is_covered_call c.layout.expansion.code (function_in c.layout.expansion.code f)
+    && result_comes_to c.layout.expansion.code (function_in c.layout.expansion.code f) (c.layout.expansion.contents u m d)
 admits c u n (tac.CallThrough type_number line d count m) =
-    are_scalar_calls c.layout.expansion.code type_number c.layout.expansion.code.functions
-admits c u n (tac.Return a) = gives_scalar c.layout.expansion.code (function_in c.layout.expansion.code u)
+    are_covered_calls c.layout.expansion.code type_number c.layout.expansion.code.functions
+    && comes_to (result_of_type c.layout.expansion.code.results type_number) (c.layout.expansion.contents u m d)
+admits c u n (tac.Return a) = is_covered_return c.layout.expansion.code (function_in c.layout.expansion.code u) a
 admits c u n i = true
 
 -- at a node stands an instruction that is covered
@@ -222,7 +245,7 @@ pub record IsCovered (c : Compiled) (function node : ℕ) : Type 0 where
 
 -- the first call is covered
 pub record CoversMain (c : Compiled) : Type 0 where
-  pub main : is_scalar_main c.layout.expansion.code (function_in c.layout.expansion.code c.layout.expansion.code.main)
+  pub main : is_covered_main c.layout.expansion.code (function_in c.layout.expansion.code c.layout.expansion.code.main)
       ≡ true
 
 -- all instructions are

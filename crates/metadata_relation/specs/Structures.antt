@@ -130,6 +130,32 @@ take_structure_code o m t c number b size i d a s =
     ++ (JumpForward (length (take_place_code o number size a (s + 2)))
     ∷ (take_place_code o number size a (s + 2) ++ hold_area b d s (s + 1)))))
 
+-- ---- results (C99 6.8.6.4 paragraph 3)
+
+-- Where the areas of a function begin that is called next: behind what the calls are charged where the call stands. A
+-- result stands in the first of them, and registers get the part that is all of it.
+abbrev pub callee_part_code : OperatorCode → MapSizes → (size into : ℕ) → List FlatInstruction
+callee_part_code o m size r =
+    Charged r
+    ∷ (o.constant (r + 1) (region_start m StructureValues) (r + 2)
+    ++ (Operate Add r r (Register (r + 1))
+    ∷ Move (r + 1) r
+    ∷ (bound_code o size r (r + 2) ++ (Constant (r + 3) 0 ∷ Constant (r + 4) 0 ∷ []))))
+
+-- Before a call whose result is a structure registers get where the area of its temporary begins, where its entries do, and
+-- the arguments of the function that moves the result there: where to, how many bytes, and which part.
+abbrev pub await_code : OperatorCode → MapSizes → Tac → CodeFunction → (size temporary scratch : ℕ)
+    → List FlatInstruction
+await_code o m t c size i s =
+    begin_area_code o m t c size i s ++ (o.constant (s + 3) size (s + 4) ++ callee_part_code o m size (s + 4))
+
+-- behind the call it is moved
+abbrev pub receive_code : (number : (place : ℕ) → ℕ) → (with_entry : Bool) → (into scratch : ℕ)
+    → List FlatInstruction
+receive_code number b d s = Call (number move_area_place) (s + 2) (s + 9) ∷ hold_area b d s (s + 1)
+
+-- ---- to a place
+
 -- A structure is assigned to the place whose address is in the first argument: from its place, or from contents.
 abbrev pub assign_code : OperatorCode → (number : (place : ℕ) → ℕ) → (size from first : ℕ) → List FlatInstruction
 assign_code o number size a f =
@@ -142,3 +168,9 @@ abbrev pub put_code : OperatorCode → (number : (place : ℕ) → ℕ) → (has
     → List FlatInstruction
 put_code o number false a size s = copy_code o number a size s
 put_code o number true a size s = assign_code o number size a s
+
+-- a parameter that is a structure is put from its argument to its home
+abbrev pub store_structure_code : OperatorCode → (number : (place : ℕ) → ℕ) → (size home from scratch : ℕ)
+    → List FlatInstruction
+store_structure_code o number size home a s =
+    Move s home ∷ part_call_code o (number put_area_place) size a s

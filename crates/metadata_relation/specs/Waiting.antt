@@ -2,12 +2,17 @@
 -- with numbers from its mark on and below the mark of what came later.
 use Rattle.std.specs.Prelude.{◌≡◌, ℕ, ◌+◌, ◌<◌, ◌≤◌, ◌==◌, Bool, true, false, List, [], ◌∷◌, length, Some, slice_get}
 use Rattle.std.specs.Prelude.{get_or}
+use Rattle.addr_map.specs.declared.region.Region.TheVariants.{StructureValues}
+use Rattle.addr_map.specs.Places.{region_start}
+use Rattle.c_tree.specs.declared.expression.Kind.{Kind}
+use Rattle.c_tree.specs.declared.expression.Kind.TheVariants.{Structure}
 use Rattle.c_tree.specs.declared.program.Variable.{Variable}
 use Rattle.source_meaning.specs.State.{State, Home, NoObject, InObject}
 use Rattle.source_meaning.specs.Blocks.{Block, has_objects}
 use Rattle.tac_ir.specs.declared.function.CodeFunction.{CodeFunction}
 use Rattle.tac_ir.specs.Stage.{Waiting, Frame, Waits, Entered}
 use Rattle.tac_ir.specs.Meaning.{objects_in}
+use Rattle.tac_ir.specs.Structures.{greatest_structure}
 use Rattle.flat_code.specs.declared.instruction.FlatInstruction.{FlatInstruction}
 use Rattle.flat_code.specs.declared.function.FlatProgram.{FlatProgram}
 use Rattle.flat_code.specs.State as flat
@@ -15,12 +20,14 @@ use Rattle.flat_code.specs.Calls.{function_in, charged}
 use Rattle.flat_code.specs.Meaning.{body_of}
 use Rattle.flat_code.specs.Routines.Routine.{HasAt}
 use Rattle.lib_wrappers.specs.AllocatingRoutines.Entering.{IsHomeOf, AreOfLock}
+use Rattle.lib_wrappers.specs.AreaRoutines.Areas.{entries_begin, HoldsPart}
+use Rattle.runtime_functions.specs.Library.{held_from}
 use Rattle.metadata_plan.specs.Registers.{most_temporaries}
 use Rattle.metadata_plan.specs.Expanded.{Leads}
 use Rattle.metadata_relation.specs.Registers.{variables_end, homes_end, first_object, lock_register, top_register}
-use Rattle.metadata_relation.specs.Registers.{temporary_register}
-use Rattle.metadata_relation.specs.Blocks.{Expansion, objects_of_body, result_of, result_entry, before_main}
-use Rattle.metadata_relation.specs.Holding.{World, HasHomes, Holds}
+use Rattle.metadata_relation.specs.Registers.{first_free, is_no_aggregate, temporary_register}
+use Rattle.metadata_relation.specs.Blocks.{Expansion, objects_of_body, result_of, result_code, before_main}
+use Rattle.metadata_relation.specs.Holding.{area_of, World, HasHomes, Holds}
 
 -- ---- objects by their numbers
 
@@ -92,14 +99,35 @@ pub record Layout : Type 0 where
   pub address : (function node : ℕ) → ℕ
   pub program : FlatProgram
 
--- the code behind the call of a function, which gives its result an entry
-abbrev pub entry_behind : Layout → (callee : CodeFunction) → Waiting → (caller : CodeFunction) → List FlatInstruction
-entry_behind l callee w c =
-    result_entry (result_of l.expansion.code callee) (l.expansion.entries w.function w.node w.place)
-    (temporary_register c w.place)
+-- the code behind the call of a function, which gives its result an entry, or moves the structure that it is
+abbrev pub code_behind : Layout → (callee : CodeFunction) → Waiting → (caller : CodeFunction) → List FlatInstruction
+code_behind l callee w c =
+    result_code l.expansion.code c (result_of l.expansion.code callee)
+    (l.expansion.entries w.function w.node w.place) w.place
 
--- A caller waits as a record does: behind its call its result gets an entry where one is kept and is not handed over, and
--- the code leads to its node.
+-- Registers have what is needed to move a structure that a call gives to the area of its temporary, which may have contents:
+-- where the area begins, where its entries do, and the arguments of the function that moves it.
+pub record AwaitsContents (e : Expansion) (c : CodeFunction) (w : Waiting) (size : ℕ) (values : flat.Values) : Type 0
+  where
+    pub may : e.contents w.function w.node w.place ≡ true
+    pub small : size ≤ greatest_structure e.code c.code w.place
+    pub own : values (first_free c) ≡ area_of e.map e.code c w.caller.charged w.place
+    pub ends : values (first_free c + 1) ≡ entries_begin (area_of e.map e.code c w.caller.charged w.place) size
+    pub first : values (first_free c + 2) ≡ area_of e.map e.code c w.caller.charged w.place
+    pub size_is : values (first_free c + 3) ≡ size
+    pub part : HoldsPart (held_from (first_free c + 4)) size 0
+        (region_start e.map StructureValues + w.caller.charged) values
+
+abbrev pub AwaitsBy : Expansion → CodeFunction → Waiting → flat.Values → Kind → Type 0
+AwaitsBy e c w values (Structure size) = AwaitsContents e c w size values
+AwaitsBy e c w values k = Unit {0}
+
+-- what a caller has for a result of a kind while it waits
+pub record Awaits (e : Expansion) (c : CodeFunction) (w : Waiting) (kind : Kind) (values : flat.Values) : Type 0 where
+  pub by : AwaitsBy e c w values kind
+
+-- A caller waits as a record does: behind its call its result gets an entry where one is kept and is not handed over, or is
+-- moved, and the code leads to its node.
 pub record IsWaitingAs (w : World) (l : Layout) (callee : CodeFunction) (mark : ℕ) (waiting : Waiting)
     (frame : flat.Frame) (xs : List flat.Frame) : Type 0 where
   pub function : frame.function ≡ waiting.function
@@ -107,10 +135,11 @@ pub record IsWaitingAs (w : World) (l : Layout) (callee : CodeFunction) (mark : 
   pub there : slice_get l.expansion.code.functions waiting.function ≡ Some code
   pub low : waiting.place < most_temporaries code.code
   pub into : frame.into ≡ temporary_register code waiting.place
-  pub behind : HasAt (body_of (function_in l.program waiting.function)) frame.next (entry_behind l callee waiting code)
+  pub behind : HasAt (body_of (function_in l.program waiting.function)) frame.next (code_behind l callee waiting code)
   pub leads : Leads (body_of (function_in l.program waiting.function))
-      (frame.next + length (entry_behind l callee waiting code))
+      (frame.next + length (code_behind l callee waiting code))
       (l.address waiting.function waiting.node)
+  pub awaits : Awaits l.expansion code waiting (result_of l.expansion.code callee) frame.values
   pub below : AreHomesBelow mark waiting.caller.frame
   pub holds : Holds w (record {
     tac = l.expansion.code;
@@ -123,10 +152,13 @@ pub record IsWaitingAs (w : World) (l : Layout) (callee : CodeFunction) (mark : 
   pub charge : waiting.caller.charged ≡ charged l.program waiting.function xs
   pub fits : waiting.caller.charged ≤ l.expansion.map.budgets.calls
 
--- under `main` waits the function with which the run began, to exit with the result
-abbrev pub EntryWaits : Layout → flat.Frame → Type 0
-EntryWaits l x =
-    (x.function ≡ l.program.entry) × (x.next ≡ length (before_main l.expansion.map l.expansion.code) + 1) × (x.into ≡ 0)
+-- under `main`, which gives a scalar, waits the function with which the run began, to exit with the result
+abbrev pub EntryWaits : Layout → (callee : CodeFunction) → flat.Frame → Type 0
+EntryWaits l callee x =
+    (x.function ≡ l.program.entry)
+    × (x.next ≡ length (before_main l.expansion.map l.expansion.code) + 1)
+    × (x.into ≡ 0)
+    × (is_no_aggregate (result_of l.expansion.code callee) ≡ true)
 
 -- ---- all of them
 
@@ -142,7 +174,7 @@ pub record Level : Type 0 where
 abbrev pub AllWait : World → State → Layout → (first_stacked : ℕ) → Level → List Frame → List flat.Frame → Type 0
 AllWait w s l first v [] [] = ⊥
 AllWait w s l first v [] (x ∷ []) =
-    IsBodyAs w s v.code v.stacked first v.bound v.frame v.values × EntryWaits l x
+    IsBodyAs w s v.code v.stacked first v.bound v.frame v.values × EntryWaits l v.code x
 AllWait w s l first v [] (x ∷ y ∷ xs) = ⊥
 AllWait w s l first v (Entered n b ∷ ws) xs =
     (h : IsEnteredAs w s v.code v.bound n b v.frame v.values)

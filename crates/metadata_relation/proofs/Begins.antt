@@ -476,7 +476,7 @@ module _ (c : Compiled) (IsGood : Bytes → Type 0) (right : IsCompiled c IsGood
                   (t.behind space (spare_or (has_objects (objects_of_body k)) has_key spare));
               at = λ w. one m p u at_call (record v9 { turns = v9.turns + 1; values = t.values; work = w }) []
                   (flat_code.Call f 0 0) calls;
-              arguments_are = λ x t kind low. absurd (omega (arith, low, none));
+              arguments_are = λ x low. absurd (omega (arith, low, none));
               charge = charge;
               fits = fits;
               space = space;

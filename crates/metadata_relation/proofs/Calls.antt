@@ -9,9 +9,8 @@ use Rattle.std.proofs.lemmas.List.{length-map}
 use Rattle.addr_map.specs.Places.{MapSizes}
 use Rattle.sb_base.specs.declared.ending.Ending.TheVariants.{Abort as AbortAt, BadCall, Stack}
 use Rattle.sb_base.specs.Endings.{code_of, report_of}
-use Rattle.obj_memory.specs.declared.value.Scalar.TheVariants.{Pointer}
 use Rattle.c_tree.specs.declared.expression.Kind.{Kind}
-use Rattle.c_tree.specs.declared.expression.Kind.TheVariants.{Void, Scalar as OfScalar}
+use Rattle.c_tree.specs.declared.expression.Kind.TheVariants.{Void}
 use Rattle.c_tree.specs.declared.program.Variable.{Variable}
 use Rattle.c_tree.specs.Room.{structure_bytes}
 use Rattle.source_meaning.specs.State.{State, Rvalue}
@@ -282,9 +281,10 @@ module _ (c : Compiled) (IsGood : Bytes → Type 0) (right : IsCompiled c IsGood
           passed_tests = tested_here c IsGood right u n temps ws s v xs h (header_of_code k) (gathered temps d count) line 6
               go_on (pc + 4) 6 first_values first_part has_spaces fits_charge (omega arith)
 
-          handed : (x : ℕ) → x < count → get_or (map (λ (z : Variable). z.kind) k.parameters) x Void ≡ OfScalar Pointer
+          handed : (x : ℕ) → x < count
+              → is_moved_with_entry (get_or (map (λ (z : Variable). z.kind) k.parameters) x Void) ≡ true
               → c.layout.expansion.entries u n (d + x) ≡ true
-          handed x low kind =
+          handed x low moves =
               label.closed.read n (d + x) i at
               (ap (λ o. is_argument_with_entry (parameter_kinds o) d count (d + x)) found
               ∙ and_from (is_among d count (d + x)) (is_moved_with_entry
@@ -292,7 +292,7 @@ module _ (c : Compiled) (IsGood : Bytes → Type 0) (right : IsCompiled c IsGood
               (and_from (nat_le d (d + x)) (nat_lt (d + x) (d + count)) (le-leb d (d + x) (omega arith))
               (lt-ltb (d + x) (d + count) (omega (arith, low))))
               (ap (λ z. is_moved_with_entry (get_or (map (λ (z : Variable). z.kind) k.parameters) z Void))
-              (omega arith) ∙ ap is_moved_with_entry kind))
+              (omega arith) ∙ moves))
 
           abbrev Entered : Type 0
           Entered = Gives (call_stage c IsGood right u pc q v xs f k found plain line packed_at (T d) vs

@@ -11,10 +11,9 @@ use Rattle.std.proofs.lemmas.List.{length-map}
 use Rattle.addr_map.specs.declared.region.Region.TheVariants.{Stack as StackRegion}
 use Rattle.addr_map.specs.Places.{MapSizes, region_end}
 use Rattle.sb_base.specs.declared.ending.Ending.TheVariants.{Abort as AbortAt, BadCall, Keys, Stack}
-use Rattle.obj_memory.specs.declared.value.Scalar.TheVariants.{Pointer}
 use Rattle.obj_memory.specs.Sound.{IsSoundTag}
 use Rattle.c_tree.specs.declared.expression.Kind.{Kind}
-use Rattle.c_tree.specs.declared.expression.Kind.TheVariants.{Void, Scalar as OfScalar}
+use Rattle.c_tree.specs.declared.expression.Kind.TheVariants.{Void}
 use Rattle.c_tree.specs.declared.program.Variable.{Variable}
 use Rattle.c_tree.specs.Room.{structure_bytes}
 use Rattle.source_meaning.specs.State.{State, Rvalue}
@@ -44,7 +43,7 @@ use Rattle.flat_code.proofs.Routines.Steps.{has_front, has_back}
 use Rattle.lib_wrappers.specs.AllocatingRoutines.Entering.{block_bytes}
 use Rattle.lib_wrappers.proofs.AllocatingRoutines.SourceEntries.{some_bytes}
 use Rattle.metadata_plan.specs.Registers.{most_temporaries}
-use Rattle.metadata_plan.specs.Entries.{is_among}
+use Rattle.metadata_plan.specs.Entries.{is_among, is_moved_with_entry}
 use Rattle.metadata_plan.specs.Expanded.{Leads}
 use Rattle.metadata_plan.specs.Operators.{OperatorCode}
 use Rattle.metadata_plan.proofs.Flat.{Comes, then_comes, at_place, weaker, one}
@@ -650,7 +649,8 @@ module _ (c : Compiled) (IsGood : Bytes → Type 0) (right : IsCompiled c IsGood
           tests_stay : (y : ℕ) → y < first_free h.code → D.values y ≡ v.values y
           tests_stay y lt = D.others y lt ∙ B.others y lt ∙ A.others y lt
 
-          reads : (x : ℕ) → x < count → get_or (map (λ (z : Variable). z.kind) k.parameters) x Void ≡ OfScalar Pointer
+          reads : (x : ℕ) → x < count
+              → is_moved_with_entry (get_or (map (λ (z : Variable). z.kind) k.parameters) x Void) ≡ true
               → c.layout.expansion.entries u n (d + 1 + x) ≡ true
           reads x low kind =
               label.closed.read n (d + 1 + x) i at

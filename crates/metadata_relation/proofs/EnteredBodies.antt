@@ -10,6 +10,7 @@ use Rattle.behaviours.proofs.Running.{run_add}
 use Rattle.addr_map.specs.Places.{MapSizes}
 use Rattle.obj_memory.specs.Objects.{object_at}
 use Rattle.obj_memory.proofs.Continuing.{continues_then}
+use Rattle.c_tree.specs.declared.expression.Kind.TheVariants.{Void}
 use Rattle.c_tree.specs.declared.program.Variable.{Variable}
 use Rattle.c_tree.specs.Valid.{at_number}
 use Rattle.c_tree.specs.Blocks.{block_variables, closed, opened}
@@ -32,7 +33,7 @@ use Rattle.flat_code.specs.Calls.{arguments, function_in}
 use Rattle.flat_code.specs.Meaning.{body_of, step}
 use Rattle.flat_code.specs.Memory.{Bytes}
 use Rattle.flat_code.specs.State as flat
-use Rattle.flat_code.specs.Words.{HasWords}
+use Rattle.flat_code.specs.Words.{HasWords, WaitWithWords}
 use Rattle.flat_code.specs.Routines.Objects.StandsFor.{Keys}
 use Rattle.flat_code.specs.Routines.Routine.{HasAt}
 use Rattle.flat_code.proofs.Routines.Steps.{has_back, has_front}
@@ -48,7 +49,7 @@ use Rattle.metadata_plan.proofs.Entering.{room_behind}
 use Rattle.metadata_plan.proofs.Flat.{leads_comes, words_kept}
 use Rattle.metadata_relation.specs.Blocks.{enter_body, enter_code, objects_of_body, prologue, store_parameters}
 use Rattle.metadata_relation.specs.Blocks.{zero_variables}
-use Rattle.metadata_relation.specs.Holding.{Holds, is_object_in, is_pointer_type, IsHeldAt}
+use Rattle.metadata_relation.specs.Holding.{Holds, is_object_in}
 use Rattle.metadata_relation.specs.Registers.{first_free, first_object, homes_end}
 use Rattle.metadata_relation.specs.Registers.{parameters_end, variable_register, variables_end}
 use Rattle.metadata_relation.specs.Scopes.{context_at}
@@ -56,6 +57,8 @@ use Rattle.metadata_relation.specs.Stages.{activation, Compiled, expansion_of, l
 use Rattle.metadata_relation.specs.Stages.{views, world}
 use Rattle.metadata_relation.specs.Steps.{are_sized, IsCompiled}
 use Rattle.metadata_relation.specs.Waiting.{AllWait, BodyBy, IsBodyAs}
+use Rattle.metadata_relation.proofs.Arguments.{argument_on, IsArgument, plain_argument, words_by_kind}
+use Rattle.metadata_relation.proofs.Packing.{words_at}
 use Rattle.metadata_relation.proofs.Acting.{bytes_on, reached_words, statics_live_on, stands_as, stands_on}
 use Rattle.metadata_relation.proofs.Acting.{waits_below}
 use Rattle.metadata_relation.proofs.BlockHomes.{bytes_placed, count_work, has_home_in, sized_by, some_counted}
@@ -64,10 +67,10 @@ use Rattle.metadata_relation.proofs.CallHolds.{callee_holds}
 use Rattle.metadata_relation.proofs.CallStates.{function_of}
 use Rattle.metadata_relation.proofs.Entering.{begun_values, begins, call_stage, calls_same, enters_without}
 use Rattle.metadata_relation.proofs.Entering.{frame_of, GivesCall, IsAtCall, IsBegun, IsCoveredCall, there}
-use Rattle.metadata_relation.proofs.Holding.{held_on, holds_on, plain_on}
+use Rattle.metadata_relation.proofs.Holding.{holds_on, plain_on}
 use Rattle.metadata_relation.proofs.MadeObjects.{HaveMade, IsToMake, objects_made, placed_lives}
-use Rattle.metadata_relation.proofs.Packing.{parameter_words_are, plain_parameter, words_within}
-use Rattle.metadata_relation.proofs.Registers.{count_in, home_low, variable_low}
+use Rattle.metadata_relation.proofs.Packing.{plain_parameter, words_within}
+use Rattle.metadata_relation.proofs.Registers.{home_low, variable_low}
 use Rattle.metadata_relation.proofs.RuntimeCalls.{caller_rooms}
 use Rattle.metadata_relation.proofs.StoredParameters.{AreStored, AreToStore, parameters_stored}
 use Rattle.metadata_relation.proofs.Waiting.{body_waits, caller_by, lock_same, waits_at, waits_on, waits_same}
@@ -238,6 +241,9 @@ module _ (c : Compiled) (IsGood : Bytes → Type 0) (right : IsCompiled c IsGood
           kinds = λ y e. (declared y e).1;
         }
 
+    words_wait : WaitWithWords (frame ∷ xs)
+    words_wait = to_make.words.1
+
     all_made : (y : flat.State) × HaveMade c IsGood f k at_objects v1 (frame ∷ xs) keys mid objects
         (at_objects + length make_list) y
     all_made = objects_made c IsGood right f k at_objects v1 (frame ∷ xs) keys mid objects k.line
@@ -266,7 +272,9 @@ module _ (c : Compiled) (IsGood : Bytes → Type 0) (right : IsCompiled c IsGood
           (λ x t typed inside. plain_on (views c) keys d.keys_after s.objects made.objects v.memory y.memory d.goes t
           (get_or vs x (rvalue (integer 0))).value (variable_register k x) regs y.values
           (λ j lt. low_same (variable_register k x + j) (let z = variable_low k x t typed in omega arith))
-          (h.arguments_are x t (plain_parameter k.parameters k.variables x t typed inside).kind inside))
+          (plain_argument (world c keys s v) (get_or (map (λ (q : Variable). q.kind) k.parameters) x Void) t
+          (get_or vs x (rvalue (integer 0))) (variable_register k x) regs
+          (plain_parameter k.parameters k.variables x t typed inside).kind (h.arguments_are x inside)))
           (λ r le lt. low_same r lt ∙ argument_out first (parameters_end k) r values le) high_none d.homes
 
       -- ---- what waits
@@ -307,48 +315,48 @@ module _ (c : Compiled) (IsGood : Bytes → Type 0) (right : IsCompiled c IsGood
 
       -- ---- parameters that are objects
 
-      to_store : AreToStore c IsGood right f k found (frame ∷ xs) line made.frame k.entered k.parameters 0
-          (length s.objects) vs d.keys_after made y
+      to_store : AreToStore c IsGood right f k found (frame ∷ xs) to_make.fits to_make.room words_wait line made.frame
+          k.entered k.parameters 0 (length s.objects) vs d.keys_after made y
       to_store = record {
         words = (reached_words (map_of c) p f (frame ∷ xs) at_objects (at_objects + length make_list) v1 y
             (22 + work_of_call 2 4 1 (100 + 40 * placing_work objects) + 8 * object_count objects) to_make.words
             d.reached);
         stands = d.stands.for;
         homes = d.homes;
-        scalars = plain.scalars;
+        taken = plain.taken;
         sized = sized_front k.parameters k.entered sized;
         placed = λ j o is. (let place : j ≡ 0 + j = omega arith in
             ap (λ i. get_or made.frame i NoObject) (sym place) ∙ is);
         numbers = λ j lt. (let place : 0 + j ≡ j = omega arith in
             ap (at_number (all_variables k)) place ∙ at_front k.parameters k.variables j lt);
-        low = λ j t lt kind.
+        low = λ j lt.
             (let place : j ≡ 0 + j = omega arith in
             let within = words_within k.parameters k.variables j lt in
-            let words = parameter_words_are k.parameters j t kind in
-            subst (λ i. variable_register k i + count_in t ≤ variables_end k) place (omega arith));
-        held = λ j t lt kind.
+            subst (λ i. variable_register k i + words_at k.parameters j ≤ variables_end k) place (omega arith));
+        held = λ j lt.
             (let place : j ≡ 0 + j = omega arith in
             let within = words_within k.parameters k.variables j lt in
-            let words = parameter_words_are k.parameters j t kind in
-            subst (λ i. IsHeldAt (world c d.keys_after made y) (is_pointer_type t)
-            (get_or vs j (rvalue (integer 0))).value (variable_register k i) y.values) place
-            (held_on (views c) keys d.keys_after s.objects made.objects v.memory y.memory d.goes (is_pointer_type t)
-            (get_or vs j (rvalue (integer 0))).value (variable_register k j) regs y.values
-            (λ i few. low_same (variable_register k j + i) (omega arith)) (h.arguments_are j t kind lt).value));
+            let words = words_by_kind k.parameters j lt in
+            let kind = get_or (map (λ (q : Variable). q.kind) k.parameters) j Void in
+            subst (λ i. IsArgument (world c d.keys_after made y) kind (get_or vs j (rvalue (integer 0)))
+            (variable_register k i) y.values) place
+            (argument_on (views c) keys d.keys_after s.objects made.objects v.memory y.memory d.goes kind
+            (get_or vs j (rvalue (integer 0))) (variable_register k j) regs y.values
+            (λ i few. low_same (variable_register k j + i) (omega (arith, few, words, within))) (h.arguments_are j lt)));
       }
 
-      stored : AreStored c IsGood right f k found (frame ∷ xs) line made.frame k.entered k.parameters
-          (length s.objects) vs (at_objects + length make_list) d.keys_after made y
-          (at_objects + length make_list + length store_list) (60 * length k.parameters)
-      stored = parameters_stored c IsGood right f k found (frame ∷ xs) line made.frame k.entered k.parameters 0 (length s.objects) vs
-          (at_objects + length make_list) d.keys_after made y (has_back body at_objects make_list store_list has_body)
-          to_store
+      stored : AreStored c IsGood right f k found (frame ∷ xs) to_make.fits to_make.room words_wait line made.frame k.entered
+          k.parameters (length s.objects) vs (at_objects + length make_list) d.keys_after made y
+          (at_objects + length make_list + length store_list)
+      stored = parameters_stored c IsGood right f k found (frame ∷ xs) to_make.fits to_make.room words_wait line made.frame
+          k.entered k.parameters 0 (length s.objects) vs (at_objects + length make_list) d.keys_after made y
+          (has_back body at_objects make_list store_list has_body) to_store
 
       abbrev laid : State
-      laid = record made { objects = stored.objects; accesses = stored.accesses }
+      laid = record made { objects = stored.objects; accesses = stored.accesses; work = stored.work }
 
       abbrev z : State
-      z = spent (3 * (made.work - s.work)) laid
+      z = spent (3 * (laid.work - s.work)) laid
 
       set : set_up c.setting header vs line (begun s) ≡ GivesRun tt laid
       set =
@@ -400,6 +408,7 @@ module _ (c : Compiled) (IsGood : Bytes → Type 0) (right : IsCompiled c IsGood
           let b_few = b.few in
           let d_few = d.reached.few in
           let s_few = stored.reached.few in
+          let more = stored.more in
           let l_few = l.few in
           let work = h.work in
           let many = counted k.parameters in

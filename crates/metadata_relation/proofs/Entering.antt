@@ -10,7 +10,6 @@ use Rattle.behaviours.specs.Steps.{run}
 use Rattle.behaviours.proofs.Running.{run_add}
 use Rattle.addr_map.specs.declared.region.Region.TheVariants.{RuntimeCalls}
 use Rattle.addr_map.specs.Places.{MapSizes, region_size}
-use Rattle.obj_memory.specs.declared.value.Scalar.{Scalar}
 use Rattle.obj_memory.specs.declared.value.Scalar.TheVariants.{Integer, Pointer}
 use Rattle.c_tree.specs.declared.expression.Kind.{Kind}
 use Rattle.c_tree.specs.declared.expression.Kind.TheVariants.{Void, Scalar as OfScalar, Structure, Array}
@@ -48,12 +47,12 @@ use Rattle.metadata_plan.proofs.SetUp.{laid_out, set_up_gives, homes_of}
 use Rattle.metadata_relation.specs.Blocks.{Expansion, objects_of_body, result_of}
 use Rattle.metadata_relation.specs.Blocks.{enter_body, entry_code, prologue, zero_variables}
 use Rattle.metadata_relation.specs.Expanded.{EntersAt}
-use Rattle.metadata_relation.specs.Holding.{IsPlain}
 use Rattle.metadata_relation.specs.Registers.{passed_as, parameters_end, variable_words, parameter_words, total}
 use Rattle.metadata_relation.specs.Registers.{variable_register}
 use Rattle.metadata_relation.specs.Stages.{factor, Compiled, map_of, views, world}
 use Rattle.metadata_relation.specs.Stages.{StandsIn, MatchesBy}
-use Rattle.metadata_relation.specs.Steps.{IsCompiled, is_result, are_scalars, is_covered_call}
+use Rattle.metadata_relation.specs.Steps.{IsCompiled, are_handed_over, is_handed_over, is_covered_call}
+use Rattle.metadata_relation.proofs.Arguments.{IsArgument, plain_argument}
 use Rattle.metadata_relation.proofs.Assigning.{assigned, assigns}
 use Rattle.metadata_relation.proofs.CallHolds.{none_has, callee_holds}
 use Rattle.metadata_relation.proofs.Holding.{same_world, plain_on}
@@ -145,18 +144,18 @@ module _ (c : Compiled) (IsGood : Bytes → Type 0) (right : IsCompiled c IsGood
   -- what is tested of a call
   pub record IsCoveredCall (k : CodeFunction) : Type 0 where
     pub entered : has_objects (objects_of_body k) ≡ true → can_be_entered (objects_of_body k) ≡ true
-    pub scalars : are_scalars k.parameters ≡ true
-    pub result : is_result (result_of c.layout.expansion.code k) ≡ true
+    pub taken : are_handed_over k.parameters ≡ true
+    pub result : is_handed_over (result_of c.layout.expansion.code k) ≡ true
 
   pub covered_call : (k : CodeFunction) → is_covered_call c.layout.expansion.code (Some k) ≡ true → IsCoveredCall k
   covered_call k e =
       let t = c.layout.expansion.code in
       let vs = objects_of_body k in
-      let all = and_parts (can_enter_body vs && are_scalars k.parameters) (is_result (result_of t k)) e in
-      let first = and_parts (can_enter_body vs) (are_scalars k.parameters) all.0 in
+      let all = and_parts (can_enter_body vs && are_handed_over k.parameters) (is_handed_over (result_of t k)) e in
+      let first = and_parts (can_enter_body vs) (are_handed_over k.parameters) all.0 in
       record {
         entered = λ some. ap (λ z. not z || can_be_entered vs) (sym some) ∙ first.0;
-        scalars = first.1;
+        taken = first.1;
         result = all.1;
       }
 
@@ -211,10 +210,9 @@ module _ (c : Compiled) (IsGood : Bytes → Type 0) (right : IsCompiled c IsGood
           (flat.Stands u q (record v { turns = v.turns + 1; values = values; work = w }) xs)
           ≡ at_instruction (map_of c) c.layout.program (Some (flat_code.Call f first into)) u q
           (record v { turns = v.turns + 1; values = values; work = w }) xs
-      pub arguments_are : (x : ℕ) (t : Scalar)
-          → get_or (map (λ (p : Variable). p.kind) k.parameters) x Void ≡ OfScalar t → x < length k.parameters
-          → IsPlain (world c keys s v) t (get_or vs x (rvalue (integer 0))).value (variable_register k x)
-          (arguments first (parameters_end k) values)
+      pub arguments_are : (x : ℕ) → x < length k.parameters → IsArgument (world c keys s v)
+          (get_or (map (λ (p : Variable). p.kind) k.parameters) x Void) (get_or vs x (rvalue (integer 0)))
+          (variable_register k x) (arguments first (parameters_end k) values)
       pub charge : s.charged ≡ charged c.layout.program u xs
       pub fits : s.charged + k.room ≤ (map_of c).budgets.calls
       pub space : nat_le (objects_end (objects_of_body k) s.stacked) (stack_end c.setting) ≡ true
@@ -404,7 +402,9 @@ module _ (c : Compiled) (IsGood : Bytes → Type 0) (right : IsCompiled c IsGood
                 (λ x t typed inside. plain_on (views c) keys keys s.objects s.objects v.memory v.memory
                 (same_world (views c) keys s.objects v.memory) t (get_or vs x (rvalue (integer 0))).value
                 (variable_register k x) regs after (λ j lt. b.same (variable_register k x + j))
-                (h.arguments_are x t (plain_parameter k.parameters k.variables x t typed inside).kind inside))
+                (plain_argument (world c keys s v) (get_or (map (λ (q : Variable). q.kind) k.parameters) x Void) t
+                (get_or vs x (rvalue (integer 0))) (variable_register k x) regs
+                (plain_parameter k.parameters k.variables x t typed inside).kind (h.arguments_are x inside)))
                 (λ y le lt. b.same y ∙ argument_out first (parameters_end k) y values le)
                 (λ y le lt. b.same y ∙ argument_out first (parameters_end k) y values (omega (arith, le)))
                 (no_homes_held (world c keys s v) k after);

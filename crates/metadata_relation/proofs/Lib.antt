@@ -5,6 +5,7 @@ pub mod AreaPlaces
 pub mod AreaRegisters
 pub mod AreaSteps
 pub mod AreasBeside
+pub mod Arguments
 pub mod AssignedContents
 pub mod AssignedStructures
 pub mod Assigning

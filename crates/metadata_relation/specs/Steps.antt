@@ -157,26 +157,26 @@ covers c (tac.CallThrough type_number line d n m) = true
 covers c (tac.Return a) = true
 covers c i = false
 
-abbrev pub are_scalars : List Variable → Bool
-are_scalars [] = true
-are_scalars (v ∷ vs) = is_no_aggregate v.kind && are_scalars vs
+-- an array is never handed over, as an argument or a result
+abbrev pub is_handed_over : Kind → Bool
+is_handed_over Void = true
+is_handed_over (OfScalar k) = true
+is_handed_over (Structure n) = true
+is_handed_over (Array n) = false
+
+abbrev pub are_handed_over : List Variable → Bool
+are_handed_over [] = true
+are_handed_over (v ∷ vs) = is_handed_over v.kind && are_handed_over vs
 
 -- a body may have objects that can be entered as those of a block
 abbrev pub can_enter_body : List Variable → Bool
 can_enter_body vs = not (has_objects vs) || can_be_entered vs
 
--- an array is never handed over as a result
-abbrev pub is_result : Kind → Bool
-is_result Void = true
-is_result (OfScalar k) = true
-is_result (Structure n) = true
-is_result (Array n) = false
-
--- a function that takes scalars
+-- a body may have objects that can be entered as those of a block, and no array is handed over
 abbrev pub is_covered_call : Tac → Option CodeFunction → Bool
 is_covered_call t None = true
 is_covered_call t (Some k) =
-    (can_enter_body (objects_of_body k) && are_scalars k.parameters) && is_result (result_of t k)
+    (can_enter_body (objects_of_body k) && are_handed_over k.parameters) && is_handed_over (result_of t k)
 
 -- so is each function of a type
 abbrev pub are_covered_calls : Tac → (type_number : ℕ) → List CodeFunction → Bool
@@ -218,8 +218,8 @@ have_bytes [] = true
 have_bytes (piece.Byte b ∷ ps) = nat_lt b 256 && have_bytes ps
 have_bytes (piece.Directive d ∷ ps) = have_bytes ps
 
--- What is asked of the node besides: where a structure is put into a temporary, this one may have contents; a function takes
--- scalars; and a structure is given as the first temporary.
+-- What is asked of the node besides: where a structure is put into a temporary, this one may have contents; a function can be
+-- entered; and a structure is given as the first temporary.
 abbrev pub admits : Compiled → (function node : ℕ) → Instruction → Bool
 admits c u n (tac.ZeroOf (Structure size) d m) = c.layout.expansion.contents u m d
 admits c u n (tac.Take kind line d a m) = c.layout.expansion.contents u m d

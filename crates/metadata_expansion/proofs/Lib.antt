@@ -3,4 +3,5 @@ pub mod Laid
 pub mod Small
 pub mod Counting
 pub mod TemporaryWords
+pub mod ClosedSets
 pub mod EntryTables

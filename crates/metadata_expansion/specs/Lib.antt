@@ -6,4 +6,4 @@ pub mod Numbering
 pub mod Laying
 pub mod Contexts
 pub mod TemporarySets
-pub mod EntryTables
+pub mod ClosedSets

@@ -8,90 +8,20 @@ ghost use Rattle.c_tree.specs.Kinds.{routine_signature};
 ghost use Rattle.source_meaning.specs.Good.{plain_type};
 ghost use Rattle.tac_ir.specs.Meaning.{function_in};
 ghost use Rattle.tac_ir.specs.Temporaries.{temporaries};
-ghost use Rattle.tac_ir.specs.Ways.{nodes_of};
 ghost use Rattle.metadata_plan.specs.Registers.{all_variables, most_temporaries};
 ghost use Rattle.metadata_plan.specs.Entries.{AreClosed, can_compare, converted_from, entry_source, given};
 ghost use Rattle.metadata_plan.specs.Entries.{is_among, is_argument_with_entry, is_fixed};
 ghost use Rattle.metadata_plan.specs.Entries.{is_moved_with_entry, is_name, is_pointer_type, key_in, parameter_kinds};
 ghost use Rattle.metadata_plan.specs.Entries.{pointer_of, read_from, reads_entry, reads_for, written_from};
 ghost use Rattle.metadata_expansion.specs.TemporarySets.{is_in, room};
-ghost use Rattle.metadata_expansion.specs.EntryTables.{AreNone, HaveRoom, ReadsNoEntry, entries_in, entries_of, has_at};
-ghost use Rattle.metadata_expansion.specs.EntryTables.{is_passed_on, needs};
+ghost use Rattle.metadata_expansion.specs.ClosedSets.{AreNone, ReadsNone, in_table};
 
-use crate::layout::instruction_at;
-use crate::registers::most_temporaries;
+use crate::closing::{TemporaryTable, TemporaryUse, closed_table, insert_among, insert_if};
 use crate::temporary_set::TemporarySet;
 use c_tree::{Kind, OffsetForm, Routine, Variable};
 use obj_memory::Scalar;
 use std::alloc::{AllocError, Global};
-use tac_ir::{Base, CodeFunction, Instruction, Key, Member, Tac, Test, Ways, ways_of};
-
-/// The temporaries of a function that have entries at each of its nodes.
-#[derive(Drop)]
-pub enum EntryTable {
-    /// All of them.
-    Every,
-    /// A set for each node.
-    Sets(Vec<TemporarySet>),
-}
-
-impl EntryTable {
-    /// Whether a temporary has an entry at a node.
-    pub fn has(&self, node: usize, temporary: usize) -> bool
-        ensures { result ≡ entries_in self.now node temporary }
-    {
-        match self {
-            EntryTable::Every => true,
-            EntryTable::Sets(sets) => match sets.get(node) {
-                Some(set) => set.contains(temporary),
-                None => false,
-            },
-        }
-    }
-}
-
-// The temporary that gets a value.
-fn given(instruction: &Instruction) -> Option<usize>
-    ensures { result ≡ given instruction.now }
-{
-    match instruction {
-        Instruction::Constant { to, .. }
-        | Instruction::FunctionPointer { to, .. }
-        | Instruction::GetPlain { to, .. }
-        | Instruction::UpdatePlain { to, .. }
-        | Instruction::HomePointer { to, .. }
-        | Instruction::StaticPointer { to, .. }
-        | Instruction::ZeroOf { to, .. }
-        | Instruction::Convert { to, .. }
-        | Instruction::Unary { to, .. }
-        | Instruction::Binary { to, .. }
-        | Instruction::Offset { to, .. }
-        | Instruction::Difference { to, .. }
-        | Instruction::Narrow { to, .. }
-        | Instruction::Member { to, .. }
-        | Instruction::Take { to, .. }
-        | Instruction::Read { to, .. }
-        | Instruction::Write { to, .. }
-        | Instruction::Update { to, .. } => Some(*to),
-        Instruction::Library { first, .. }
-        | Instruction::Print { first, .. }
-        | Instruction::Call { first, .. }
-        | Instruction::CallThrough { first, .. } => Some(*first),
-        Instruction::Reserved
-        | Instruction::Skip { .. }
-        | Instruction::SetPlain { .. }
-        | Instruction::Judge { .. }
-        | Instruction::Zero { .. }
-        | Instruction::StorePart { .. }
-        | Instruction::StoreText { .. }
-        | Instruction::Branch { .. }
-        | Instruction::Case { .. }
-        | Instruction::Turn { .. }
-        | Instruction::EnterBlock { .. }
-        | Instruction::LeaveBlock { .. }
-        | Instruction::Return { .. } => None,
-    }
-}
+use tac_ir::{Base, CodeFunction, Instruction, Key, Member, Tac, Test};
 
 // The pointer of a sum of a pointer and an index.
 fn pointer_of(form: OffsetForm, left: usize, right: usize) -> usize
@@ -257,30 +187,6 @@ fn reads_for(function: &CodeFunction, test: Test, key: Option<usize>) -> bool
     }
 }
 
-// Puts a temporary into a set where that is wanted.
-fn insert_if(set: &mut TemporarySet, temporary: usize, wanted: bool)
-    requires { temporary < room set.old }
-    ensures room { room set.new ≡ room set.old }
-    ensures more { (y : ℕ) → is_in set.new y ≡ (is_in set.old y || (y == temporary && wanted)) }
-{
-    if wanted {
-        set.insert(temporary);
-    }
-}
-
-// Puts so many temporaries from one on into a set.
-#[tactic(auto, using(crate::proofs::EntryTables::among_step))]
-fn insert_among(set: &mut TemporarySet, first: usize, count: usize)
-    requires inside { first + count ≤ room set.old }
-    requires small { room set.old < 2 ^ 64 }
-    ensures room { room set.new ≡ room set.old }
-    ensures more { (y : ℕ) → is_in set.new y ≡ (is_in set.old y || is_among first count y) }
-{
-    for i in 0..count {
-        insert_if(set, first + i, true);
-    }
-}
-
 // How many of the first arguments of a routine are pointers: no other is.
 fn pointer_count(routine: Routine) -> usize
     ensures { (n d y : ℕ) → is_argument_with_entry (routine_signature routine).parameters d n y
@@ -354,7 +260,7 @@ fn result_kind(program: &Tac, function: &CodeFunction) -> Kind
 }
 
 // Puts those temporaries into a set that an instruction of a function reads as pointers.
-fn insert_read(
+fn insert_pointers_read(
     set: &mut TemporarySet,
     program: &Tac,
     function: &CodeFunction,
@@ -414,153 +320,43 @@ fn insert_read(
     }
 }
 
-// Puts those temporaries into a set that have entries at a node.
-fn insert_at(set: &mut TemporarySet, sets: &[TemporarySet], node: usize)
-    requires { HaveRoom (room set.old) sets.now }
-    ensures room { room set.new ≡ room set.old }
-    ensures more { (y : ℕ) → is_in set.new y ≡ (is_in set.old y || entries_of sets.now node y) }
-{
-    if let Some(other) = sets.get(node) {
-        set.insert_all(other);
+/// Pointers, of which entries are wanted.
+#[derive(Clone, Copy)]
+pub struct PointerUse;
+
+impl TemporaryUse for PointerUse {
+    ghost reads = { reads_entry };
+
+    ghost source = { entry_source };
+
+    #[tactic(auto, using(crate::proofs::EntryTables::source_low))]
+    fn source_of(instruction: &Instruction) -> Option<usize> {
+        entry_source(instruction)
     }
-}
 
-// Puts those into a set that have entries where an instruction leads.
-fn insert_behind(set: &mut TemporarySet, sets: &[TemporarySet], ways: Ways)
-    requires { HaveRoom (room set.old) sets.now }
-    ensures room { room set.new ≡ room set.old }
-    ensures more { (y : ℕ) → is_in set.new y ≡ (is_in set.old y || has_at (entries_of sets.now) (nodes_of ways) y) }
-{
-    match ways {
-        Ways::Nowhere => {}
-        Ways::To(next) => insert_at(set, sets, next),
-        Ways::Either(first, second) => {
-            insert_at(set, sets, first);
-            insert_at(set, sets, second);
-        }
+    fn insert_read(
+        set: &mut TemporarySet,
+        program: &Tac,
+        function: &CodeFunction,
+        instruction: &Instruction,
+    ) {
+        insert_pointers_read(set, program, function, instruction);
     }
-}
-
-// What needs entries behind an instruction becomes what needs them before it, by what it gives and what of.
-fn pass_on(set: &mut TemporarySet, to: Option<usize>, source: Option<usize>)
-    requires to { (d : ℕ) → to ≡ Some d → d < room set.old }
-    requires source { (a : ℕ) → source ≡ Some a → a < room set.old }
-    ensures room { room set.new ≡ room set.old }
-    ensures passed { (y : ℕ) → is_in set.new y ≡ is_passed_on (is_in set.old) to source y }
-{
-    let Some(to) = to else {
-        return;
-    };
-    let wanted = set.contains(to);
-    set.remove(to);
-    if let Some(source) = source {
-        insert_if(set, source, wanted);
-    }
-}
-
-// The temporaries that need entries before an instruction, where those of other nodes are known.
-fn needed(
-    alloc: Global,
-    words: usize,
-    sets: &[TemporarySet],
-    program: &Tac,
-    function: &CodeFunction,
-    instruction: &Instruction,
-) -> Result<TemporarySet, AllocError>
-    requires few { words < 2 ^ 32 }
-    requires sets { HaveRoom (64 * words) sets.now }
-    requires among { temporaries instruction.now ≤ 64 * words }
-    ensures room { IfOk result (λ set. room set ≡ 64 * words) }
-    ensures needed { IfOk result (λ set. (y : ℕ) → is_in set y
-        ≡ needs program.now function.now (entries_of sets.now) instruction.now y) }
-{
-    let mut set = TemporarySet::new(alloc, words)?;
-    insert_behind(&mut set, sets, ways_of(instruction));
-    pass_on(&mut set, given(instruction), entry_source(instruction));
-    insert_read(&mut set, program, function, instruction);
-    Ok(set)
-}
-
-// A set for each node. Code that comes later has lower nodes: so those to which an instruction leads are known before it,
-// but for the ends of loops, where no temporary is in use.
-fn found(
-    alloc: Global,
-    words: usize,
-    program: &Tac,
-    function: &CodeFunction,
-) -> Result<Vec<TemporarySet>, AllocError>
-    requires few { words < 2 ^ 32 }
-    requires inside { most_temporaries function.now.code ≤ 64 * words }
-    ensures size { IfOk result (λ sets. length sets.items ≡ length function.now.code) }
-    ensures room { IfOk result (λ sets. HaveRoom (64 * words) sets.items) }
-    ensures none { IfOk result (λ sets. ReadsNoEntry program.now function.now → AreNone (entries_of sets.items)) }
-{
-    let mut sets = Vec::new(alloc);
-    for node in 0..function.code.as_slice().len() {
-        let instruction = instruction_at(function, node);
-        let set = needed(
-            alloc,
-            words,
-            sets.as_slice(),
-            program,
-            function,
-            instruction,
-        )?;
-        sets.push(set)?;
-    }
-    Ok(sets)
-}
-
-// The set of a node.
-fn set_at(sets: &[TemporarySet], node: usize) -> &TemporarySet
-    requires { node < length sets.now }
-    ensures { slice_get sets.now node ≡ Some result.now }
-{
-    &sets[node]
-}
-
-// Whether a set for each node is closed.
-fn is_closed(
-    alloc: Global,
-    words: usize,
-    sets: &[TemporarySet],
-    program: &Tac,
-    function: &CodeFunction,
-) -> Result<bool, AllocError>
-    requires few { words < 2 ^ 32 }
-    requires inside { most_temporaries function.now.code ≤ 64 * words }
-    requires size { length sets.now ≡ length function.now.code }
-    requires room { HaveRoom (64 * words) sets.now }
-    ensures closed { IfOk result (λ b. b ≡ true → AreClosed program.now function.now (entries_of sets.now)) }
-    ensures none { IfOk result (λ b. ReadsNoEntry program.now function.now → AreNone (entries_of sets.now) → b ≡ true) }
-{
-    for node in 0..function.code.as_slice().len() {
-        let instruction = instruction_at(function, node);
-        let set = needed(alloc, words, sets, program, function, instruction)?;
-        let found = set_at(sets, node);
-        if !set.is_within(found) {
-            return Ok(false);
-        }
-    }
-    Ok(true)
 }
 
 /// The temporaries of a function that have entries: a closed set of them, and none where no instruction reads a
 /// temporary as a pointer. It takes time and memory for each node and each 64 temporaries, and fails only for want of
 /// memory.
+#[tactic(auto, using(crate::proofs::EntryTables::entries_closed))]
 pub fn entry_table(
     alloc: Global,
     program: &Tac,
     function: &CodeFunction,
-) -> Result<EntryTable, AllocError>
+) -> Result<TemporaryTable, AllocError>
     requires { most_temporaries function.now.code < 2 ^ 32 }
-    ensures closed { IfOk result (λ table. AreClosed program.now function.now (entries_in table)) }
-    ensures none { IfOk result (λ table. ReadsNoEntry program.now function.now → AreNone (entries_in table)) }
+    ensures closed { IfOk result (λ table. AreClosed program.now function.now (in_table table)) }
+    ensures none { IfOk result (λ table. ReadsNone (reads_entry program.now function.now) function.now
+        → AreNone (in_table table)) }
 {
-    let words = (most_temporaries(function.code.as_slice()) / 64) as usize + 1;
-    let sets = found(alloc, words, program, function)?;
-    if is_closed(alloc, words, sets.as_slice(), program, function)? {
-        return Ok(EntryTable::Sets(sets));
-    }
-    Ok(EntryTable::Every)
+    closed_table::<PointerUse>(alloc, program, function)
 }

@@ -7,6 +7,7 @@
 pub mod blocks;
 pub mod body;
 pub mod calls;
+pub mod closing;
 pub mod context;
 pub mod entries;
 pub mod homes;
@@ -22,6 +23,7 @@ pub mod registers;
 pub mod temporary_set;
 pub mod updates;
 
-pub use crate::entries::{EntryTable, entry_table};
+pub use crate::closing::{TemporaryTable, TemporaryUse, closed_table};
+pub use crate::entries::entry_table;
 pub use crate::numbers::fits;
 pub use crate::program::expand;

@@ -1,7 +1,7 @@
 //! The blocks of a function of any program.
 
 ghost use Rattle.std.specs.Prelude.{◌≡◌};
-ghost use Rattle.metadata_expansion.specs.EntryTables.{entries_in};
+ghost use Rattle.metadata_expansion.specs.ClosedSets.{in_table};
 ghost use Rattle.instruction_selection.specs.Contexts.{IsPrepared};
 ghost use Rattle.instruction_selection.specs.Selected.{entry_behind};
 ghost use Rattle.program_expansion.specs.Expansions.{CanPutIn, begin_in, block_in};
@@ -9,7 +9,7 @@ ghost use Rattle.program_expansion.specs.Expansions.{CanPutIn, begin_in, block_i
 use flat_code::FlatInstruction;
 use instruction_selection::bodies::put_prologue;
 use instruction_selection::{FunctionContext, put_instruction};
-use metadata_expansion::EntryTable;
+use metadata_expansion::TemporaryTable;
 use metadata_expansion::laying::BlockSource;
 use shadow_space::ShadowForm;
 use std::alloc::AllocError;
@@ -22,14 +22,14 @@ pub struct FunctionBlocks<'a, S> {
     /// What they are made from.
     pub context: FunctionContext<'a>,
     /// The temporaries that have entries.
-    pub entries: &'a EntryTable,
+    pub entries: &'a TemporaryTable,
     /// The form of the shadow space.
     pub form: PhantomData<S>,
 }
 
 // Whether the temporary that an instruction gives has an entry behind it.
-fn entry_behind(entries: &EntryTable, instruction: &Instruction) -> bool
-    ensures { result ≡ entry_behind (entries_in entries.now) instruction.now }
+fn entry_behind(entries: &TemporaryTable, instruction: &Instruction) -> bool
+    ensures { result ≡ entry_behind (in_table entries.now) instruction.now }
 {
     match instruction {
         Instruction::Constant { to, next, .. }
@@ -71,9 +71,9 @@ fn entry_behind(entries: &EntryTable, instruction: &Instruction) -> bool
 }
 
 impl<'a, S: ShadowForm> BlockSource for FunctionBlocks<'a, S> {
-    ghost block_for = { λ x i. block_in S.entry_read S.entry_write x.context (entries_in x.entries.now) i };
+    ghost block_for = { λ x i. block_in S.entry_read S.entry_write x.context (in_table x.entries.now) i };
 
-    ghost beginning = { λ x. begin_in S.entry_read S.entry_write x.context (entries_in x.entries.now) };
+    ghost beginning = { λ x. begin_in S.entry_read S.entry_write x.context (in_table x.entries.now) };
 
     ghost CanPut = { λ x i. CanPutIn x.context i };
 

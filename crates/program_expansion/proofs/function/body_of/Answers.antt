@@ -1,5 +1,5 @@
 use Rattle.std.proofs.Common.{refl, arith, sym, ap, ◌∙◌}
-use Rattle.metadata_expansion.specs.EntryTables.{entries_in}
+use Rattle.metadata_expansion.specs.ClosedSets.{in_table}
 use Rattle.program_expansion.proofs.Prepared.{is_among, prepared}
 use Rattle.program_expansion.proofs.Small.{behind_nothing, is_long, temporaries_few}
 use Rattle.program_expansion.proofs.function.body_of.Goals as goal

@@ -1,7 +1,7 @@
 use Rattle.std.proofs.Common.{◌≡◌, ℕ, ◌||◌}
 use Rattle.metadata_plan.specs.Entries.{is_among}
 use Rattle.metadata_expansion.specs.TemporarySets.{is_in, room}
-use Rattle.metadata_expansion.proofs.entries.insert_among.Given as goal
+use Rattle.metadata_expansion.proofs.closing.insert_among.Given as goal
 
 abbrev pub invariant-loop-i : goal.invariant-loop-i
 invariant-loop-i l = record {

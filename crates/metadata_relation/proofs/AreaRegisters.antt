@@ -161,12 +161,13 @@ module _ (c : Compiled) (IsGood : Bytes → Type 0) (right : IsCompiled c IsGood
       let counted = length-append constants sum in
       let at : q + 1 ≡ place + suc (length (constants ++ sum)) = omega (arith, counted) in
       let number = made.gives in
+      let total_is : total ≡ area_of m t code charge d =
+      register_sum (made.after r) (made.after (r + 1)) (omega (arith, charge_there, number))
+      ∙ omega (arith, charge_there, number) in
       record {
         after = put made.after r total;
         comes = subst (λ z. Sets place y z (put made.after r total) 14) at three;
-        gives = put_same made.after r total
-            ∙ register_sum (made.after r) (made.after (r + 1)) (omega (arith, charge_there, number))
-            ∙ omega (arith, charge_there, number);
+        gives = put_same made.after r total ∙ total_is;
         others = λ z lt. put_other made.after r total z (λ e. omega arith) ∙ made.others z (omega arith)
             ∙ put_other y.values r (wrap (charged p u xs)) z (λ e. omega arith);
       }
@@ -192,12 +193,14 @@ module _ (c : Compiled) (IsGood : Bytes → Type 0) (right : IsCompiled c IsGood
       let number = made.gives in
       let counted = length-append constants sum in
       let at : q + 1 ≡ place + length (constants ++ sum) = omega (arith, counted) in
+      let total_is : total ≡ entries_begin address size =
+      register_sum (made.after r) (made.after a) (omega (arith, address_there, number))
+      ∙ omega (arith, address_there, number) in
       record {
         after = put made.after r total;
         comes = subst (λ z. Sets place y z (put made.after r total) 12) at two;
         gives = put_same made.after r total
-            ∙ register_sum (made.after r) (made.after a) (omega (arith, address_there, number))
-            ∙ omega (arith, address_there, number);
+            ∙ total_is;
         others = λ z lt. put_other made.after r total z (λ e. omega arith) ∙ made.others z (omega arith);
       }
 

@@ -747,7 +747,8 @@ zeros r (suc n) = Constant r 0 ∷ zeros (r + 1) n
 abbrev pub zero_variables : CodeFunction → List FlatInstruction
 zero_variables c = zeros (parameters_end c + 1) (total variable_words c.variables)
 
--- a parameter that is an object gets its argument, by an access
+-- A parameter that is an object gets its argument: a scalar by an access, and the contents of a structure by a function of
+-- the runtime.
 abbrev pub store_parameter : InlineCode → Tac → CodeFunction → Kind → (variable : ℕ) → List FlatInstruction
 store_parameter i t c (OfScalar k) x =
     i.store (home_register c x) (held_scalar k (variable_register c x)) (first_free c)

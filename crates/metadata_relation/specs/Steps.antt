@@ -172,7 +172,7 @@ are_handed_over (v ∷ vs) = is_handed_over v.kind && are_handed_over vs
 abbrev pub can_enter_body : List Variable → Bool
 can_enter_body vs = not (has_objects vs) || can_be_entered vs
 
--- a body may have objects that can be entered as those of a block, and no array is handed over
+-- a function whose body can be entered, and that takes and gives no array
 abbrev pub is_covered_call : Tac → Option CodeFunction → Bool
 is_covered_call t None = true
 is_covered_call t (Some k) =

@@ -1,4 +1,4 @@
-"""Rows on levels, faults and statements, with their answers by hand."""
+"""Rows on levels, faults and trees, with their answers by hand."""
 
 # A text with repeated parts: what stands before them, the part before the middle, the middle, the part behind it, what stands
 # behind them, and the greatest number of times that leaves at most 200 levels, by the definition of levels
@@ -218,6 +218,11 @@ ITEMS = [
     ("if (a) ; else if (b) ;", "if with else"),
 ]
 
+# The tree that the program makes by hand, of `int x, y;`: each token of the text once, with its number and line. The grammar has
+# such a declaration (C99 6.7).
+TREE = ["0 line 1 int", "1 line 1 x", "2 line 1 ,", "3 line 1 y", "4 line 1 ;", "well formed"]
+
+
 def opened(text):
     """How many more brackets the text opens than it closes."""
     return sum(text.count(mark) for mark in "([{") - sum(text.count(mark) for mark in ")]}")
@@ -242,3 +247,4 @@ def written():
         yield f"%fault\n{text}", [f"{word} line {line}"]
     for text, item in OPERATORS + TYPES_BEGIN_CASTS + ITEMS:
         yield f"%item\n{text}\n", [item]
+    yield "%tree\n", TREE

@@ -4,7 +4,8 @@
 // - `%fault`, a text: the place of the token and the line of its fault, or the word that is in no part of the subset;
 // - `%times N`, five lines: the verdict on the text of the first, N times the second, the third, N times the fourth,
 //   and the fifth;
-// - `%item`, statements, where T is a typedef name: what the first of them is (`item.rt`).
+// - `%item`, statements, where T is a typedef name: what the first of them is (`item.rt`);
+// - `%tree`: the words of a tree that is made by hand, and whether it is well formed (`made_tree.rt`).
 //
 // `stdin` and `stdout` are made by gcc 12.2.0 and clang 14.0.6 (Debian 12), which agree, as `vectors.py` beside them
 // says. Behind these rows come 196 texts of which the grammar of the subset has another verdict than they, or the same
@@ -13,6 +14,7 @@
 #![tactic(auto)]
 
 mod item;
+mod made_tree;
 mod verdict;
 
 use crate::verdict::{Verdict, verdict_of};
@@ -37,6 +39,7 @@ fn put_row(rt: &HostRuntime, row: &str) -> Result<()> {
     match asked {
         "%fault" => put_fault(rt, text),
         "%item" => item::put(rt, text),
+        "%tree" => made_tree::put(rt),
         _ => put_repeated(rt, asked, text),
     }
 }

@@ -15,7 +15,7 @@ use Rattle.source_interp.specs.declared.machine.Machine.{Machine}
 use Rattle.source_interp.specs.declared.stop.Stop.{Stop}
 use Rattle.source_interp.specs.Outside.{Outside}
 use Rattle.source_interp.specs.Standing.{Acts}
-use Rattle.source_interp.proofs.Acting.{done_acts, same_acts}
+use Rattle.source_interp.proofs.Acting.{done_acts, gives_acts, same_acts}
 use Rattle.source_interp.proofs.Accesses.{changes}
 
 bytes_there : (bytes : List ℕ) (p : Place) (store store' objects : Objects)
@@ -47,3 +47,9 @@ pub does_something : (g : Setting) (old new : Machine) (o : Outside) (size argum
     → Acts g old new o o r (unless_empty size argument run)
 does_something g old new o size argument run r e a = same_acts g old new o o r run _
     (ap (λ b. choose b (done argument) run) e) a
+
+-- where there are no bytes, and what is given is known by an equation
+pub does_nothing_as : (g : Setting) (m : Machine) (o : Outside) (size argument v : Value) (run : Run Value)
+    → is_zero size ≡ true → v ≡ argument → Acts g m m o o (Ok v) (unless_empty size argument run)
+does_nothing_as g m o size argument v run e same = same_acts g m m o o (Ok v) (done argument) _
+    (ap (λ b. choose b (done argument) run) e) (gives_acts g m o v argument same)

@@ -19,3 +19,4 @@ mod Scanning
 mod Heaping
 mod Seeking
 mod Comparing
+mod BytePairs

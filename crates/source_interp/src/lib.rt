@@ -18,6 +18,7 @@ pub mod machine;
 pub mod memory;
 pub mod output;
 pub mod printing;
+pub mod ranges;
 pub mod stop;
 pub mod strings;
 pub mod structure;

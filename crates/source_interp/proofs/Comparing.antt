@@ -1,5 +1,5 @@
 -- Strings that are compared.
-use Rattle.std.proofs.Common.{◌≡◌, ℕ, ◌+◌, ◌-◌, ◌<◌, ◌≤◌, sym, ap, subst, refl, ◌∙◌, Ok, Err, Bool, true, false}
+use Rattle.std.proofs.Common.{◌≡◌, ℕ, ◌+◌, ◌-◌, ◌<◌, ◌≤◌, sym, ap, subst, refl, ◌∙◌, Ok, Err, true, false}
 use Rattle.std.specs.Prelude.{Result}
 use Rattle.sb_base.specs.declared.ending.Ending.TheVariants.{Spatial}
 use Rattle.obj_memory.specs.declared.value.Value.{Value}

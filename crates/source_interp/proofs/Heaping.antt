@@ -7,14 +7,13 @@ use Rattle.obj_memory.specs.declared.object.Storage.TheVariants.{Allocated}
 use Rattle.obj_memory.specs.declared.value.Tag.{Tag}
 use Rattle.obj_memory.specs.declared.value.Value.{Value}
 use Rattle.obj_memory.specs.Heap.{block_count, block_room, is_allocated, least_place}
-use Rattle.obj_memory.specs.Objects.{Objects, object_at, with_new}
+use Rattle.obj_memory.specs.Objects.{object_at, with_new}
 use Rattle.source_meaning.specs.State.{State, ◌>>◌, Setting, change, choose, done, read_state, stop, tally}
 use Rattle.source_meaning.specs.Places.{heap_first, heap_last}
 use Rattle.source_meaning.specs.Actions.{integer, is_zero}
-use Rattle.source_meaning.specs.Heap.{allocate, bad_free, block_place, free, freed, freed_by, freed_object, is_block_start}
+use Rattle.source_meaning.specs.Heap.{allocate, bad_free, block_place, free, freed, freed_by, is_block_start}
 use Rattle.source_meaning.specs.Heap.{realloc, tally_blocks}
 use Rattle.interpreter_objects.specs.Blocks.{AreInOrder, AreLive, gap_in, with_gap_filled}
-use Rattle.interpreter_objects.specs.Kept.{kept}
 use Rattle.interpreter_objects.proofs.Gaps.{filled_live, gap_is_place, order_filled}
 use Rattle.interpreter_objects.proofs.Keeping.{address_at, kept_new, life_at, size_at, storage_at}
 use Rattle.interpreter_objects.proofs.Weights.{blocks_counted}

@@ -82,6 +82,14 @@ pub record Ran (seed count : ℕ) (built : BuiltImage) (size : ℕ) (stop : Stop
   pub size_is : size ≡ length (work_source seed count)
   pub run : RunsImage built.image.items default_limit stop (alone [] []) (alone shown reported)
 
+pub ran_to : (seed count : ℕ) (built : BuiltImage) (size : ℕ) (stop end : Stop) (shown reported : List ℕ)
+    → IsBuiltFrom (work_source seed count) default_sizes built → size ≡ length (work_source seed count)
+    → RunsImage built.image.items default_limit stop (alone [] []) (alone shown reported) → stop ≡ end
+    → Ran seed count built size end shown reported
+ran_to seed count built size stop end shown reported is_built size_is run same =
+    subst (λ e. Ran seed count built size e shown reported) same
+    (record { is_built = is_built; size_is = size_is; run = run })
+
 worked : (seed count : ℕ) (built : BuiltImage) (size : ℕ) (stop : Stop) (shown reported : List ℕ)
     → Ran seed count built size stop shown reported → Worked seed count built.image.items stop
 worked seed count built size stop shown reported r = record {

@@ -20,3 +20,4 @@ mod Heaping
 mod Seeking
 mod Comparing
 mod BytePairs
+mod Arguments

@@ -1,12 +1,13 @@
 //! Values that were found, with the contents of structures.
 
-ghost use Rattle.std.specs.Prelude.{◌≡◌, List, [], ◌∷◌, Option, Some, None, IfNone, IfSome, OnOk, OnErr};
+ghost use Rattle.std.specs.Prelude.{◌≡◌, List, [], ◌∷◌, Option, Some, None, IfNone, IfSome, OnOk, OnErr, drop};
 ghost use Rattle.obj_memory.specs.Objects.{ObjectState};
 ghost use Rattle.source_meaning.specs.State.{Rvalue};
 ghost use Rattle.source_meaning.specs.Actions.{integer};
 ghost use Rattle.source_meaning.specs.Calls.{first_of};
 ghost use Rattle.source_meaning.specs.Structures.{member_of, rvalue};
 ghost use Rattle.interpreter_objects.specs.Kept.{found_in};
+ghost use Rattle.interpreter_tasks.specs.Actions.{arguments};
 ghost use Rattle.source_interp.specs.Answers.{PopsTo, is_there};
 
 use crate::value::integer;
@@ -146,5 +147,23 @@ impl Values {
         ensures { PopsTo self.old self.new result }
     {
         self.items.pop()
+    }
+
+    /// So many values found last as arguments, the first one first; all where there are fewer.
+    pub fn arguments(&self, count: usize) -> &[Found]
+        ensures { result.now ≡ arguments count self.now }
+    {
+        let left = self.items.len().saturating_sub(count);
+        let all = self.items.as_slice();
+        &all[left..]
+    }
+
+    /// So many values found last are let go.
+    #[tactic(auto, using(crate::proofs::Arguments::others_are))]
+    pub fn let_go(&mut self, count: usize)
+        ensures { self.new ≡ drop count self.old }
+    {
+        let left = self.items.len().saturating_sub(count);
+        self.items.truncate(left);
     }
 }

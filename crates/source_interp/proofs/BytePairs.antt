@@ -95,5 +95,6 @@ compares g o old new size left right work v t t' e e' a =
     (reads_then g old new o o ys (Ok v) (λ s. bytes_at size right s.objects)
     (λ y. tally (2 * pairs_compared xs y) >> done (order_of xs y))
     (λ start s st. same_bytes size right old.store s.objects st.objects_are t')
-    (then_acts g old new new o o o (Ok tt) tt (Ok v) (tally (2 * pairs_compared xs ys)) (λ _. done (order_of xs ys)) refl
+    (then_acts g old new new o o o (Ok tt) tt (Ok v) (tally (2 * pairs_compared xs ys)) (λ _. done (order_of xs ys))
+    refl
     (subst (λ n. Acts g old new o o (Ok tt) (tally n)) e a) (gives_acts g new o v (order_of xs ys) e')))

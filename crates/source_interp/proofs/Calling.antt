@@ -13,7 +13,8 @@ use Rattle.source_meaning.specs.State.{change, done, read_state}
 use Rattle.source_meaning.specs.Actions.{integer}
 use Rattle.source_meaning.specs.Blocks.{pass_or_stop, without_homes}
 use Rattle.source_meaning.specs.Structures.{rvalue}
-use Rattle.source_meaning.specs.Calls.{Caller, back_to, caller, first_of, parameter_count, parameter_values, rest_of, test_charge}
+use Rattle.source_meaning.specs.Calls.{Caller, back_to, caller, first_of}
+use Rattle.source_meaning.specs.Calls.{parameter_count, parameter_values, rest_of, test_charge}
 use Rattle.source_meaning.specs.Calls.{write_parameter, write_parameters}
 use Rattle.source_interp.specs.declared.limits.Limits.{Limits}
 use Rattle.source_interp.specs.declared.machine.Machine.{Machine}
@@ -129,10 +130,12 @@ module _ (ps : List Variable) (vs : List Rvalue) (i : ℕ) (p : Variable) (withi
   parameters_at = drop_more ps i p within ∙ ap (λ x. x ∷ drop (i + 1) ps) (sym is)
 
   values_at : parameter_values (drop i ps) (drop i vs)
-      ≡ (if p.is_object then integer 0 else (get_or vs i none).value) ∷ parameter_values (drop (i + 1) ps) (drop (i + 1) vs)
+      ≡ (if p.is_object then integer 0 else (get_or vs i none).value) ∷ parameter_values (drop (i + 1) ps) (drop (i +
+      1) vs)
   values_at =
       ap (λ xs. parameter_values xs (drop i vs)) parameters_at
-      ∙ ap (λ x. (if p.is_object then integer 0 else x.value) ∷ parameter_values (drop (i + 1) ps) (rest_of (drop i vs)))
+      ∙ ap (λ x. (if p.is_object then integer 0 else x.value) ∷ parameter_values (drop (i + 1) ps) (rest_of (drop i
+      vs)))
       (first_at vs i)
       ∙ ap (λ xs. (if p.is_object then integer 0 else (get_or vs i none).value) ∷ parameter_values (drop (i + 1) ps) xs)
       (rest_at vs i)
@@ -192,7 +195,8 @@ module _ (ps : List Variable) (hs : List Home) (vs : List Rvalue) (line i : ℕ)
       ∙ sym (nothing_written (drop (i + 1) ps) line (drop (i + 1) vs) s)
       ∙ ap (λ xs. write_parameters (drop (i + 1) ps) xs line (drop (i + 1) vs) s)
       (sym (drop_all (i + 1) hs (omega (arith, h))))
-      ∙ ap (λ x. on (write_parameter p.kind x line (get_or vs i none) s) (λ _. others)) (sym (get_or_past hs i NoObject h))
+      ∙ ap (λ x. on (write_parameter p.kind x line (get_or vs i none) s) (λ _. others)) (sym (get_or_past hs i
+      NoObject h))
 
   first_written : (s : State) → write_parameters (drop i ps) (drop i hs) line (drop i vs) s
       ≡ on (one s) (λ _. others)
@@ -219,7 +223,8 @@ module _ (ps : List Variable) (hs : List Home) (vs : List Rvalue) (line i : ℕ)
     pub none_written : (e : Stop) (r r' : Result (Unit {0}) Stop) → r ≡ Err e → r' ≡ Err e
         → Acts g now next during after r at_home
         → Acts g first next before after r' (write_parameters ps hs line vs)
-    none_written e r r' is' is'' a = goes_no_further g first now next before during after (write_parameters ps hs line vs)
+    none_written e r r' is' is'' a = goes_no_further g first now next before during after (write_parameters ps hs line
+        vs)
         (write_parameters (drop i ps) (drop i hs) line (drop i vs)) at_home (λ _. others) r r' e so_far first_here is'
         is'' a
 

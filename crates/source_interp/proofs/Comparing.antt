@@ -4,7 +4,8 @@ use Rattle.std.specs.Prelude.{Result}
 use Rattle.sb_base.specs.declared.ending.Ending.TheVariants.{Spatial}
 use Rattle.obj_memory.specs.declared.value.Value.{Value}
 use Rattle.obj_memory.specs.Judgement.{moved}
-use Rattle.source_meaning.specs.State.{State, Outcome, Gives, Ended, Paused, on, Run, ◌>>=◌, choose, done, Setting, stop}
+use Rattle.source_meaning.specs.State.{State, Outcome, Gives, Ended, Paused, on}
+use Rattle.source_meaning.specs.State.{Run, ◌>>=◌, choose, done, Setting, stop}
 use Rattle.source_meaning.specs.Bytes.{look, order}
 use Rattle.source_meaning.specs.Strings.{compare_within, go_on}
 use Rattle.source_interp.specs.declared.machine.Machine.{Machine}
@@ -22,7 +23,10 @@ use Rattle.source_interp.proofs.Scanning.{all_left, left_more, none_left}
 -- two bytes as a pair
 
 pair_second : (x : Outcome ℕ) (byte : ℕ) (f : Pair → Run Value)
-    → on x (λ y. f (record { first = byte; second = y })) ≡ on (on x (λ y. done (record { first = byte; second = y }))) f
+    → on x (λ y. f (record { first = byte; second = y })) ≡ on (on x (λ y. done (record {
+      first = byte;
+      second = y;
+    }))) f
 pair_second (Gives y s) byte f = refl
 pair_second (Ended e s) byte f = refl
 pair_second (Paused s) byte f = refl

@@ -19,7 +19,8 @@ use Rattle.source_interp.specs.declared.stop.Stop.TheVariants as stopped_by
 use Rattle.source_interp.specs.Limits.{AreLimits}
 use Rattle.source_interp.specs.Outside.{Outside}
 use Rattle.source_interp.specs.Standing.{Acts}
-use Rattle.source_interp.proofs.Acting.{Continues, alike_acts, done_acts, goes_no_further, goes_on, goes_to_end, reads_then}
+use Rattle.source_interp.proofs.Acting.{Continues, alike_acts, done_acts}
+use Rattle.source_interp.proofs.Acting.{goes_no_further, goes_on, goes_to_end, reads_then}
 use Rattle.source_interp.proofs.Acting.{same_acts}
 use Rattle.source_interp.proofs.Least.{reads}
 use Rattle.source_interp.proofs.Stacked.{moves_frame}

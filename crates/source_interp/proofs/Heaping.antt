@@ -106,7 +106,8 @@ adds_block g o l old new address size n place limits whole found is filled count
     (λ objects e live. subst (λ bs. AreLive (with_new Allocated address size objects) bs) (sym blocks)
     (filled_live (heap_first g) (heap_last g) size address objects old.blocks gap live))
     (λ order. subst (λ bs. AreInOrder (heap_first g) (heap_last g + 1) bs) (sym blocks)
-    (order_filled (heap_first g) (heap_last g) size old.blocks order (ap (λ n. n % 16) (sym limits.heap_first) ∙ whole))))
+    (order_filled (heap_first g) (heap_last g) size old.blocks order (ap (λ n. n % 16) (sym limits.heap_first) ∙
+    whole))))
     (done_acts g new o n))
 
 -- what a pointer frees

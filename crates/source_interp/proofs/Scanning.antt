@@ -15,7 +15,8 @@ use Rattle.source_interp.specs.declared.stop.Stop.TheVariants as stopped_by
 use Rattle.source_interp.specs.Outside.{Outside}
 use Rattle.source_interp.specs.Routines.{behind_scan, scanned}
 use Rattle.source_interp.specs.Standing.{Acts}
-use Rattle.source_interp.proofs.Acting.{Continues, alike_acts, gives_acts, goes_no_further, goes_on, same_acts, then_acts}
+use Rattle.source_interp.proofs.Acting.{Continues, alike_acts, gives_acts}
+use Rattle.source_interp.proofs.Acting.{goes_no_further, goes_on, same_acts, then_acts}
 
 -- what comes behind a byte, and behind those before it
 
@@ -143,6 +144,7 @@ module _ (g : Setting) (m : Machine) (o : Outside) (bytes : List ℕ) (must_end 
 pub pads : (bytes : List ℕ) (size count : ℕ) (whole zeros all : List ℕ) → whole ≡ bytes → count ≡ size - length whole
     → zeros ≡ replicate count 0 → all ≡ whole ++ zeros → all ≡ bytes ++ replicate (size - length bytes) 0
 pads bytes size count whole zeros all e e' e'' more =
-    more ∙ ap (λ xs. xs ++ zeros) e ∙ ap (λ xs. bytes ++ xs) (e'' ∙ ap (λ n. replicate n 0) (e' ∙ ap (λ xs. size - length xs) e))
+    more ∙ ap (λ xs. xs ++ zeros) e ∙ ap (λ xs. bytes ++ xs) (e'' ∙ ap (λ n. replicate n 0) (e' ∙ ap (λ xs. size -
+    length xs) e))
 
 pub ruleset padding = (pads)

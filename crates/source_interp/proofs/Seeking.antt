@@ -61,7 +61,8 @@ module _ (sought line : ℕ) where
 
       pub is_found : (byte == sought) ≡ true → Acts g first next o o (Ok p) (seeking count string)
       is_found e = gives p p refl
-          (ap (λ x. choose x (done p) (choose (byte == 0) (done (integer 0)) (seeking (count - (i + 1)) (moved 1 p)))) e)
+          (ap (λ x. choose x (done p) (choose (byte == 0) (done (integer 0)) (seeking (count - (i + 1)) (moved 1 p))))
+          e)
 
       pub is_missing : (v : Value) → (byte == sought) ≡ false → (byte == 0) ≡ true → v ≡ integer 0
           → Acts g first next o o (Ok v) (seeking count string)

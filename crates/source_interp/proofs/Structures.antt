@@ -310,7 +310,8 @@ module _ (g : Setting) (old new : Machine) (before now : Outside) (kind : Kind) 
       → Acts g old new before now r (store k is_judged p line v.value)
       → Acts g old new before now r (stored_rvalue kind is_judged p line v)
   stores_scalar k e a = alike_acts g old new before now r (store k is_judged p line v.value) _
-      (λ s. ap (λ x. stored_rvalue x is_judged p line v s) e ∙ only_stored (store k is_judged p line v.value s) v.value) a
+      (λ s. ap (λ x. stored_rvalue x is_judged p line v s) e ∙ only_stored (store k is_judged p line v.value s)
+      v.value) a
 
   pub stores_structure : (n : ℕ) → kind ≡ Structure n
       → Acts g old new before now r (copy_value v.contents n is_judged p line v.value)

@@ -11,7 +11,8 @@ use Rattle.source_interp.specs.declared.strings.Pair.{Pair}
 
 -- a byte of each, one after the other
 abbrev pub look_at_both : (left right : Value) → (line : ℕ) → Run Pair
-look_at_both left right line = look left line >>= λ x. (look right line >>= λ y. done (record { first = x; second = y }))
+look_at_both left right line =
+    look left line >>= λ x. (look right line >>= λ y. done (record { first = x; second = y }))
 
 -- two ranges at places, and behind pointers, which are judged before
 abbrev pub compare_at : (size : ℕ) → (left right : Place) → Run Value

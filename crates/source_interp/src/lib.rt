@@ -1,5 +1,6 @@
 //! What a source means, run directly. So far this is the state of a run, and some of what is done with it: the actions
-//! of expressions, structures by value, blocks that are entered and left, bytes put out. No source is run.
+//! of expressions, structures by value, blocks that are entered and left, what initializers store, what calls set up and
+//! take back, routines of the library. No source is run.
 #![tactic(auto)]
 
 pub mod access;

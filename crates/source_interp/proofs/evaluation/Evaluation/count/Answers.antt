@@ -8,4 +8,5 @@ use Rattle.source_interp.proofs.evaluation.Evaluation.count.Goals as goal
 pub returns : goal.returns
 returns c o =
     values_stay (action.Count c.args.work) (tally c.args.work) c.args.self.now
-    (record c.args.self.now { machine = c.tally.new.self }) o o (λ e r is. law.counts c.args.work e r) refl (Ok tt) (λ g. c.tally.ensures g o)
+    (record c.args.self.now { machine = c.tally.new.self }) o o (λ e r is. law.counts c.args.work e r) refl (Ok tt) (λ
+    g. c.tally.ensures g o)

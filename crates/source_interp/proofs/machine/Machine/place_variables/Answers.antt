@@ -10,9 +10,11 @@ loop-i-init c g o = placing_begins g o c.args.self.now c.new-homes.result c.args
 
 pub loop-i-preserved : goal.loop-i-preserved
 loop-i-preserved c g o =
-    one_placed g o c.args.self.now c.loop-i.self c.place_variable.new.self c.loop-i.homes c.args.variables.now c.loop-i.i
+    one_placed g o c.args.self.now c.loop-i.self c.place_variable.new.self c.loop-i.homes c.args.variables.now
+    c.loop-i.i
     c.nth-variable.result (c.loop-i.invariant g o) c.loop-i-test.true c.nth-variable.ensures (home_of
-    c.in_ok-home.home) (housed c.place_variable.result) c.push.new.self (ap housed c.in_ok-home.was) c.in_ok-push.ensures
+    c.in_ok-home.home) (housed c.place_variable.result) c.push.new.self (ap housed c.in_ok-home.was)
+    c.in_ok-push.ensures
     (c.place_variable.ensures g o)
 
 pub returns-in_err-home : goal.returns-in_err-home

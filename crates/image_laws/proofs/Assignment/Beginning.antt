@@ -19,13 +19,13 @@ use Rattle.flat_code.specs.declared.instruction.FlatInstruction.TheVariants.{Con
 use Rattle.flat_code.specs.declared.function.FlatProgram.{FlatProgram}
 use Rattle.flat_code.specs.Routines.Metadata.{entry_registers}
 use Rattle.shadow_space.specs.Form.{EntryCode}
-use Rattle.runtime_functions.specs.declared.runtime.RuntimeFunction.TheVariants.{Enter}
+use Rattle.runtime_functions.specs.declared.runtime.RuntimeFunction.TheVariants.{Enter, PutArea}
 use Rattle.runtime_functions.specs.Library.{register_count as passed_count}
 use Rattle.metadata_plan.specs.Registers.{all_variables}
 use Rattle.metadata_plan.specs.OperatorLists.Operators.{operators}
 use Rattle.metadata_relation.specs.Homes.{register_count}
 use Rattle.metadata_relation.specs.InlineLists.{inline_lists}
-use Rattle.metadata_relation.specs.Registers.{passed_as, parameters_end, area_words, parameter_words, variable_words}
+use Rattle.metadata_relation.specs.Registers.{passed_as, parameters_end, parameter_words, variable_words}
 use Rattle.metadata_relation.specs.Registers.{total}
 use Rattle.metadata_relation.specs.Registers.{before, register_in, variable_register, home_register, home_entry}
 use Rattle.metadata_relation.specs.Registers.{first_free}
@@ -33,20 +33,23 @@ use Rattle.metadata_relation.specs.Registers.{first_object, top_register}
 use Rattle.metadata_relation.specs.Blocks.{Expansion, zeros, zero_variables, store_parameter, store_parameters}
 use Rattle.metadata_relation.specs.Blocks.{enter_body}
 use Rattle.metadata_relation.specs.Blocks.{enter_code, enter_place, prologue, held_scalar, objects_of_body}
-use Rattle.metadata_relation.specs.Blocks.{result_of}
+use Rattle.metadata_relation.specs.Blocks.{runtime_number}
+use Rattle.metadata_relation.specs.Structures.{put_area_place}
 use Rattle.metadata_relation.proofs.Registers.{count_in, plain_words}
 use Rattle.image_laws.specs.Plans.Assignment.{Registers, IsOneOf, Assigns, Names}
 use Rattle.image_laws.specs.Plans.EntryLists.{AssignEntries}
 use Rattle.image_laws.specs.Plans.Instructions.{homes_from, entered_registers, numbers_from, begin_made, HasCallees}
-use Rattle.image_laws.proofs.Assignment.Flows.{Flows, LastIn, followed, and_then, last_both}
+use Rattle.image_laws.specs.Plans.Instructions.{stored_register, stored_registers}
+use Rattle.image_laws.proofs.Assignment.Flows.{Flows, LastIn, and_then, last_both}
 use Rattle.image_laws.proofs.Assignment.Straight.{AllFrom, AreIn, straight, nothing, ends_run}
 use Rattle.image_laws.proofs.Assignment.Operators.{are_quiet, quiet_last}
 use Rattle.image_laws.proofs.Assignment.Values.{Block, block_assigns}
-use Rattle.image_laws.proofs.Assignment.Pieces.{from_first, from_behind, value_in, then_more}
+use Rattle.image_laws.proofs.Assignment.Pieces.{from_first, from_behind, value_in}
 use Rattle.image_laws.proofs.Assignment.Calls.{one_left, one_right}
 use Rattle.image_laws.proofs.Assignment.Accesses.{AreOwn, fewer_own, scalar_registers, store_flows, store_last}
 use Rattle.image_laws.proofs.Assignment.Homes.{entered_block, enter_last}
 use Rattle.image_laws.proofs.Assignment.Sites.{home_most}
+use Rattle.image_laws.proofs.Assignment.Structures.{Serves, parameter_last, parameter_stored}
 
 -- ---- homes of the objects of a body
 
@@ -114,7 +117,7 @@ parameter_stands (p ∷ ps) vs (suc x) v at = let low = parameter_stands ps vs x
 
 module _ (p : FlatProgram) (u : ℕ) (whole : Expansion) (read write : EntryCode) (entries : AssignEntries read write)
     (callees : HasCallees p whole.code) (c : CodeFunction) (parameters : ℕ)
-    (same : parameters ≡ parameters_end c + area_words (result_of whole.code c)) where
+    (same : parameters ≡ parameters_end c) where
   abbrev e : Expansion
   e = record whole { inline = inline_lists read write whole.map }
 
@@ -125,14 +128,8 @@ module _ (p : FlatProgram) (u : ℕ) (whole : Expansion) (read write : EntryCode
   abbrev G : Registers
   G y = y < parameters
 
-  area_few : (kind : Kind) → area_words kind ≤ 1
-  area_few Void = omega arith
-  area_few (OfScalar k) = omega arith
-  area_few (Structure n) = omega arith
-  area_few (Array n) = omega arith
-
   low : (y : ℕ) → G y → P y
-  low y lt = let few = area_few (result_of whole.code c) in omega (arith, lt, same, few)
+  low y lt = omega (arith, lt, same)
 
   own : AreOwn P (first_free c) 16
   own y le lt = omega (arith, lt)
@@ -166,13 +163,17 @@ module _ (p : FlatProgram) (u : ℕ) (whole : Expansion) (read write : EntryCode
   scalar_given (Integer t) r S all = (from_first S r 0 all, tt)
   scalar_given Pointer r S all = value_in S true r all
 
+  -- the function that puts a structure to its home
+  puts : Serves p (runtime_number whole.code put_area_place) 7
+  puts = callees.runtime put_area_place PutArea refl
+
   -- those of a list stand at the numbers from one on among all parameters
   abbrev AreParameters : (first : ℕ) → List Variable → Type 0
   AreParameters x vs = (k : ℕ) (v : Variable) → slice_get vs k ≡ Some v → slice_get c.parameters (x + k) ≡ Some v
 
   one_stored : (kind : Kind) (x : ℕ) (v : Variable) (S : Registers) → ((y : ℕ) → S y → P y) → v.kind ≡ kind
       → slice_get c.parameters x ≡ Some v → ((y : ℕ) → G y → S y) → S (home_register c x)
-      → Flows p u P S (store_parameter e.inline c kind x) 0 []
+      → Flows p u P S (store_parameter e.inline whole.code c kind x) 0 (stored_register c kind)
   one_stored (OfScalar k) x v S low' is at keeps home =
       let r = variable_register c x in
       let end = parameter_stands c.parameters c.variables x v at in
@@ -181,24 +182,34 @@ module _ (p : FlatProgram) (u : ℕ) (whole : Expansion) (read write : EntryCode
       (scalar_given k r S (λ j lt. keeps (r + j) (omega (arith, lt, end, words, same))))
       (fewer_own P (first_free c) 16 (first_free c) 5 (omega arith) (omega arith) own)
   one_stored Void x v S low' is at keeps home = ends_run p u P S (Abort 1) [] low' tt
-  one_stored (Structure n) x v S low' is at keeps home = ends_run p u P S (Abort 1) [] low' tt
+  one_stored (Structure n) x v S low' is at keeps home =
+      let r = variable_register c x in
+      let end = parameter_stands c.parameters c.variables x v at in
+      let words : 5 ≡ parameter_words v = ap (λ z. passed_count (passed_as z)) (sym is) in
+      parameter_stored p u P S low' (runtime_number whole.code) n (home_register c x) r (first_free c) puts home
+      (value_in S true r (λ j lt. keeps (r + j) (omega (arith, lt, end, words, same))))
+      (fewer_own P (first_free c) 16 (first_free c) 8 (omega arith) (omega arith) own)
   one_stored (Array n) x v S low' is at keeps home = ends_run p u P S (Abort 1) [] low' tt
 
-  one_last : (E : Registers) (kind : Kind) (x : ℕ) → LastIn p E (store_parameter e.inline c kind x)
-  one_last E (OfScalar k) x =
+  one_last : (E : Registers) (kind : Kind) (x : ℕ) → ((y : ℕ) → IsOneOf (stored_register c kind) y → E y)
+      → LastIn p E (store_parameter e.inline whole.code c kind x)
+  one_last E (OfScalar k) x has =
       store_last p u P read write entries whole.map E (home_register c x) (held_scalar k (variable_register c x)) (first_free c)
-  one_last E Void x = inl refl
-  one_last E (Structure n) x = inl refl
-  one_last E (Array n) x = inl refl
+  one_last E Void x has = inl refl
+  one_last E (Structure n) x has =
+      parameter_last p u P E (runtime_number whole.code) n (home_register c x) (variable_register c x) (first_free c) puts
+      (has (first_free c + 7) (inl refl))
+  one_last E (Array n) x has = inl refl
 
   stored_flows : (vs : List Variable) (x : ℕ) (S : Registers) → ((y : ℕ) → S y → P y) → AreParameters x vs
       → ((y : ℕ) → G y → S y)
       → ((k : ℕ) (v : Variable) → slice_get c.parameters k ≡ Some v → v.is_object ≡ true → S (home_register c k))
-      → Flows p u P S (store_parameters e.inline c x vs) 0 []
+      → Flows p u P S (store_parameters e.inline whole.code c x vs) 0 (stored_registers c vs)
   stored_flows [] x S low' are keeps homes = nothing p u P S low'
   stored_flows (v ∷ vs) x S low' are keeps homes =
-      followed p u P S (if v.is_object then store_parameter e.inline c v.kind x else [])
-      (store_parameters e.inline c (suc x) vs) 0 [] [] (by v.is_object refl)
+      and_then p u P S (if v.is_object then store_parameter e.inline whole.code c v.kind x else [])
+      (store_parameters e.inline whole.code c (suc x) vs) 0 (if v.is_object then stored_register c v.kind else [])
+      (stored_registers c vs) (by v.is_object refl)
       (λ T keeps' made low''.
       stored_flows vs (suc x) T low''
       (λ k w at. let place : x + suc k ≡ suc x + k = omega arith in
@@ -209,19 +220,25 @@ module _ (p : FlatProgram) (u : ℕ) (whole : Expansion) (read write : EntryCode
       here = let place : x + 0 ≡ x = omega arith in subst (λ z. slice_get c.parameters z ≡ Some v) place (are 0 v refl)
 
       by : (b : Bool) → v.is_object ≡ b
-          → Flows p u P S (if b then store_parameter e.inline c v.kind x else []) 0 []
+          → Flows p u P S (if b then store_parameter e.inline whole.code c v.kind x else []) 0
+          (if b then stored_register c v.kind else [])
       by true object = one_stored v.kind x v S low' refl here keeps (homes x v here object)
       by false object = nothing p u P S low'
 
-  stored_last : (E : Registers) (vs : List Variable) (x : ℕ) → LastIn p E (store_parameters e.inline c x vs)
-  stored_last E [] x = tt
-  stored_last E (v ∷ vs) x =
-      last_both p E (if v.is_object then store_parameter e.inline c v.kind x else [])
-      (store_parameters e.inline c (suc x) vs) (by v.is_object) (stored_last E vs (suc x))
+  stored_last : (E : Registers) (vs : List Variable) (x : ℕ) → ((y : ℕ) → IsOneOf (stored_registers c vs) y → E y)
+      → LastIn p E (store_parameters e.inline whole.code c x vs)
+  stored_last E [] x has = tt
+  stored_last E (v ∷ vs) x has =
+      let own = if v.is_object then stored_register c v.kind else [] in
+      last_both p E (if v.is_object then store_parameter e.inline whole.code c v.kind x else [])
+      (store_parameters e.inline whole.code c (suc x) vs)
+      (by v.is_object (λ y one. has y (one_left own (stored_registers c vs) y one)))
+      (stored_last E vs (suc x) (λ y one. has y (one_right own (stored_registers c vs) y one)))
     where
-      by : (b : Bool) → LastIn p E (if b then store_parameter e.inline c v.kind x else [])
-      by true = one_last E v.kind x
-      by false = tt
+      by : (b : Bool) → ((y : ℕ) → IsOneOf (if b then stored_register c v.kind else []) y → E y)
+          → LastIn p E (if b then store_parameter e.inline whole.code c v.kind x else [])
+      by true has = one_last E v.kind x has
+      by false has = tt
 
   -- ---- all of it
 
@@ -244,7 +261,8 @@ module _ (p : FlatProgram) (u : ℕ) (whole : Expansion) (read write : EntryCode
   body_block : (b : Bool)
       → Block p u P G
       (zero_variables c ++ (if b then enter_body e c else [])) 0
-      (zeroed ++ (if b then entered_registers c (objects_of_body c) else []))
+      (zeroed
+      ++ (if b then entered_registers c (objects_of_body c) ++ stored_registers c c.parameters else []))
   body_block b = by b
     where
       first : Flows p u P G (zero_variables c) 0 zeroed
@@ -261,7 +279,10 @@ module _ (p : FlatProgram) (u : ℕ) (whole : Expansion) (read write : EntryCode
       enter = enter_code operators whole.map whole.code c vs c.line
 
       store : List FlatInstruction
-      store = store_parameters e.inline c 0 c.parameters
+      store = store_parameters e.inline whole.code c 0 c.parameters
+
+      stored : List ℕ
+      stored = stored_registers c c.parameters
 
       entered : (S : Registers) → ((y : ℕ) → S y → P y) → Block p u P S enter 0 (entered_registers c vs)
       entered S low' =
@@ -270,17 +291,18 @@ module _ (p : FlatProgram) (u : ℕ) (whole : Expansion) (read write : EntryCode
 
       by : (b : Bool)
           → Block p u P G (zero_variables c ++ (if b then enter ++ store else [])) 0
-          (zeroed ++ (if b then entered_registers c vs else []))
+          (zeroed ++ (if b then entered_registers c vs ++ stored else []))
       by false = record {
         flows = and_then p u P G (zero_variables c) [] 0 zeroed [] first (λ S keeps made low'. nothing p u P S low');
         last = last_both p (λ y. G y ⊎ IsOneOf (zeroed ++ []) y) (zero_variables c) [] (quiet (λ y. G y ⊎ IsOneOf (zeroed ++ []) y)) tt;
       }
       by true =
-          let E = λ (y : ℕ). G y ⊎ IsOneOf (zeroed ++ entered_registers c vs) y in
+          let made = entered_registers c vs ++ stored in
+          let E = λ (y : ℕ). G y ⊎ IsOneOf (zeroed ++ made) y in
           record {
-            flows = and_then p u P G (zero_variables c) (enter ++ store) 0 zeroed (entered_registers c vs) first
-                (λ S keeps made low'.
-                then_more p u P S enter store (entered_registers c vs) (entered S low').flows
+            flows = and_then p u P G (zero_variables c) (enter ++ store) 0 zeroed made first
+                (λ S keeps zeros low'.
+                and_then p u P S enter store 0 (entered_registers c vs) stored (entered S low').flows
                 (λ T keeps' made' low''.
                 stored_flows c.parameters 0 T low''
                 (λ k v at. let place : 0 + k ≡ k = omega arith in
@@ -289,7 +311,8 @@ module _ (p : FlatProgram) (u : ℕ) (whole : Expansion) (read write : EntryCode
                 (λ k v at object. made' (home_register c k) (inr (object_home k v at object)))));
             last = last_both p E (zero_variables c) (enter ++ store) (quiet E)
                 (last_both p E enter store (enter_last p u P whole.map whole.code c vs c.line E)
-                (stored_last E c.parameters 0));
+                (stored_last E c.parameters 0
+                (λ y one. inr (one_right zeroed made y (one_right (entered_registers c vs) stored y one)))));
           }
 
   begin_block : Block p u P G (prologue e c) 0 (begin_made c)

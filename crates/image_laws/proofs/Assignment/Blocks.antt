@@ -557,10 +557,10 @@ module _ (site : Site) where
   block_of (tac.Print x line d k m) ok at has homes =
       let lt = most_at c.code n (tac.Print x line d k m) at in print site x line d k m at has ok lt
   block_of (tac.Call f line d k m) ok at has homes =
-      let lt = most_at c.code n (tac.Call f line d k m) at in call site f line d k m at has ok lt
+      let lt = most_at c.code n (tac.Call f line d k m) at in call site f line d k m at has lt
   block_of (tac.CallThrough type_number line d k m) ok at has homes =
       let lt = most_at c.code n (tac.CallThrough type_number line d k m) at in
-      through site type_number line d k m at has ok lt
+      through site type_number line d k m at has lt
   block_of (tac.EnterBlock b line m) ok at has homes =
       let known = callees.runtime enter_place Enter refl in
       entered_block p u P whole.map whole.code c (objects_in (Some c) b) line (home_named site)

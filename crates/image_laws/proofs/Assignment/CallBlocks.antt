@@ -30,13 +30,14 @@ use Rattle.flat_code.specs.Meaning.{results_of}
 use Rattle.flat_operators.specs.Operators.{conversion_code}
 use Rattle.runtime_functions.specs.declared.library.LibraryFunction.{LibraryFunction}
 use Rattle.runtime_functions.specs.declared.library.LibraryFunction.TheVariants as library
-use Rattle.runtime_functions.specs.declared.runtime.RuntimeFunction.TheVariants.{Library}
+use Rattle.runtime_functions.specs.declared.runtime.RuntimeFunction.TheVariants.{Library, MoveArea}
 use Rattle.runtime_functions.specs.Library.{Passed, NoValue, OneWord, WithEntry, total_count, held_from, signature}
 use Rattle.runtime_functions.specs.Library.{routine_of}
 use Rattle.metadata_plan.specs.Blocks.{call_tests}
 use Rattle.metadata_plan.specs.Entries.{reads_entry}
 use Rattle.metadata_plan.specs.Entries.{is_moved_with_entry}
 use Rattle.metadata_plan.specs.Entries.{is_argument_with_entry, parameter_kinds}
+use Rattle.metadata_plan.specs.OperatorLists.Operators.{operators}
 use Rattle.metadata_plan.specs.Registers.{most_temporaries}
 use Rattle.metadata_relation.specs.FunctionTypes.{first_of_type}
 use Rattle.metadata_relation.specs.InlineCode.{InlineCode}
@@ -44,7 +45,7 @@ use Rattle.metadata_relation.specs.InlineLists.{inline_lists}
 use Rattle.metadata_relation.specs.Printing.{print_code, scan_statuses}
 use Rattle.metadata_relation.specs.Registers.{temporary_register, first_free, moved_register}
 use Rattle.metadata_relation.specs.Registers.{lock_register, top_register}
-use Rattle.metadata_relation.specs.Registers.{passed_as, result_words, area_words}
+use Rattle.metadata_relation.specs.Registers.{passed_as, result_words}
 use Rattle.metadata_relation.specs.Registers.{parameters_end}
 use Rattle.metadata_relation.specs.Blocks.{block, untagged}
 use Rattle.metadata_relation.specs.Blocks.{runtime_number}
@@ -52,10 +53,10 @@ use Rattle.metadata_relation.specs.Blocks.{library_place, statuses_of, status_co
 use Rattle.metadata_relation.specs.Blocks.{leave_code}
 use Rattle.metadata_relation.specs.Blocks.{objects_of_body, result_of, call_code, call_of, object_tests, callee_tests}
 use Rattle.metadata_relation.specs.Blocks.{room_tests, unknown_object_tests, through_code, through_of}
+use Rattle.metadata_relation.specs.Structures.{move_area_place}
 use Rattle.c_lower.specs.Liveness.Liveness.{reads, is_among}
 use Rattle.image_laws.specs.Plans.Assignment.{Registers, IsOneOf, passed_over}
 use Rattle.image_laws.specs.Plans.Instructions.{value_of, result_made, call_made, made_registers}
-use Rattle.image_laws.specs.Plans.Instructions.{is_no_structure, gives_no_structure}
 use Rattle.image_laws.specs.Plans.Instructions.{homes_read, left_registers}
 use Rattle.image_laws.proofs.Plans.Flow.{none_has, one_is}
 use Rattle.image_laws.proofs.Assignment.Flows.{Flows, followed, last_both}
@@ -70,7 +71,8 @@ use Rattle.image_laws.proofs.Assignment.Accesses.{fewer_own}
 use Rattle.image_laws.proofs.Assignment.Homes.{left_flows}
 use Rattle.image_laws.proofs.Assignment.Calls.{passed_from, AreReady, call_tests_flows, object_tests_flows}
 use Rattle.image_laws.proofs.Assignment.Calls.{callee_flows, room_flows, unknown_flows, served_block, called_block}
-use Rattle.image_laws.proofs.Assignment.Calls.{passed_total, total_few, no_area}
+use Rattle.image_laws.proofs.Assignment.Calls.{passed_total, total_few}
+use Rattle.image_laws.proofs.Assignment.Structures.{Serves}
 use Rattle.image_laws.proofs.Assignment.Printing.{AreGiven, HaveStrings, printed_block}
 use Rattle.image_laws.proofs.Assignment.Sites.{Site, P as NamedAt, B as BlockAt, Has as HasAt, kinds_passed}
 use Rattle.image_laws.proofs.Assignment.Sites.{kinds_length}
@@ -298,13 +300,12 @@ module _ (site : Site) where
   result_kept d (Array k) b lt = temporary_named site d b lt
 
   -- the arguments of a function, in words
-  takes_total : (callee : CodeFunction) → is_no_structure (result_of whole.code callee) ≡ true
-      → parameters_end callee + area_words (result_of whole.code callee)
-      ≡ total_count (map (λ v. passed_as v.kind) callee.parameters)
-  takes_total callee ok =
-      let whole_count = passed_total callee.parameters in
-      let none = no_area (result_of whole.code callee) ok in
-      omega (arith, whole_count, none)
+  takes_total : (callee : CodeFunction) → parameters_end callee ≡ total_count (map (λ v. passed_as v.kind) callee.parameters)
+  takes_total callee = sym (passed_total callee.parameters)
+
+  -- the function that moves a structure which a call gives
+  moves : Serves p (runtime_number whole.code move_area_place) 7
+  moves = callees.runtime move_area_place MoveArea refl
 
   takes_few : (vs : List Variable) (k : ℕ) → length vs ≡ k → total_count (map (λ v. passed_as v.kind) vs) ≤ 5 * k
   takes_few vs k same =
@@ -314,11 +315,10 @@ module _ (site : Site) where
 
   pub call : (f line d k m : ℕ) →
       let i = tac.Call f line d k m in
-      slice_get c.code n ≡ Some i → Has i → gives_no_structure whole.code (function_in whole.code f) ≡ true
-      → max (suc d) (d + k) ≤ most_temporaries c.code
-      → B (call_of whole.map whole.code c (function_in whole.code f) f line d k (whole.entries u m d))
+      slice_get c.code n ≡ Some i → Has i → max (suc d) (d + k) ≤ most_temporaries c.code
+      → B (call_of operators whole.map whole.code c (function_in whole.code f) f line d k (whole.entries u m d))
       (call_made whole.code (function_in whole.code f) (whole.entries u m d) (temporary_register c d))
-  call f line d k m at has ok most = by (function_in whole.code f) refl ok
+  call f line d k m at has most = by (function_in whole.code f) refl
     where
       b : Bool
       b = whole.entries u m d
@@ -329,10 +329,10 @@ module _ (site : Site) where
       r : ℕ
       r = moved_register c (5 * d)
 
-      by : (o : Option CodeFunction) → function_in whole.code f ≡ o → gives_no_structure whole.code o ≡ true
-          → B (call_of whole.map whole.code c o f line d k b) (call_made whole.code o b D)
-      by None is ok = stopped site (BadCall line) (value_of b D) (temporary_named site d b (omega (arith, most)))
-      by (Some callee) is ok = either (length callee.parameters == k) refl
+      by : (o : Option CodeFunction) → function_in whole.code f ≡ o
+          → B (call_of operators whole.map whole.code c o f line d k b) (call_made whole.code o b D)
+      by None is = stopped site (BadCall line) (value_of b D) (temporary_named site d b (omega (arith, most)))
+      by (Some callee) is = either (length callee.parameters == k) refl
         where
           kind : Kind
           kind = result_of whole.code callee
@@ -344,7 +344,7 @@ module _ (site : Site) where
           kinds = map (λ v. v.kind) callee.parameters
 
           either : (same : Bool) → (length callee.parameters == k) ≡ same
-              → B (if same then call_code whole.map whole.code c callee f line d b else End (Abort line) ∷ [])
+              → B (if same then call_code operators whole.map whole.code c callee f line d b else End (Abort line) ∷ [])
               (result_made kind b D)
           either false other = stopped site (Abort line) (result_made kind b D) (result_kept d kind b (omega (arith, most)))
           either true agreed =
@@ -353,24 +353,23 @@ module _ (site : Site) where
               let known = callees.functions f callee is in
               let i = tac.Call f line d k m in
               let s = first_free c in
-              called_block p u P c G low
+              called_block p u P c whole.code moves G low whole.map
               (call_tests whole.map callee.room line s ++ object_tests whole.map (objects_of_body callee) line s) takes
-              (Call f r D) kind b D d r
+              (Call f r D) kind b d d r
               (followed p u P G (call_tests whole.map callee.room line s)
               (object_tests whole.map (objects_of_body callee) line s) 0 [] []
               (call_tests_flows p u P G low whole.map callee.room line s (free_named site))
               (λ S keeps made low'.
               object_tests_flows p u P S low' whole.map (objects_of_body callee) line s
               (fewer_own P s 16 s 2 (omega arith) (omega arith) (own site))))
-              ok
               (subst (λ vs. AreReady G c vs d) (kinds_passed callee.parameters)
               (ready i at has kinds d k (λ y h. h)
               (λ y h. subst (λ o. is_argument_with_entry (parameter_kinds o) d k y ≡ true) (sym is) h)
               (omega (arith, count, long))))
               (moved_named site d k (total_count takes) (omega (arith, most)) (takes_few callee.parameters k count))
-              (temporary_named site d true (omega (arith, most)))
+              (temporary_named site d true (omega (arith, most))) (own site)
               (λ S keeps low' packs.
-              call_flows p u P S low' f r D (total_count takes) (result_words kind) (known.0 ∙ takes_total callee ok) known.1
+              call_flows p u P S low' f r D (total_count takes) (result_words kind) (known.0 ∙ takes_total callee) known.1
               packs (result_named d kind (omega (arith, most))))
               (λ E all. call_last p E f r D (result_words kind) known.1 all)
 
@@ -380,13 +379,12 @@ module _ (site : Site) where
   pub through : (type_number line d k m : ℕ) →
       let i = tac.CallThrough type_number line d k m in
       let kind = first_of_type whole.code.functions type_number in
-      slice_get c.code n ≡ Some i → Has i
-      → gives_no_structure whole.code (slice_get whole.code.functions kind) ≡ true
-      → suc d + k ≤ most_temporaries c.code
-      → B (through_of whole.map whole.code c (slice_get whole.code.functions kind) kind line d k (whole.entries u m d))
+      slice_get c.code n ≡ Some i → Has i → suc d + k ≤ most_temporaries c.code
+      → B (through_of operators whole.map whole.code c (slice_get whole.code.functions kind) kind line d k
+      (whole.entries u m d))
       (call_made whole.code (slice_get whole.code.functions kind) (whole.entries u m d) (temporary_register c d))
-  through type_number line d k m at has ok most =
-      by (slice_get whole.code.functions (first_of_type whole.code.functions type_number)) ok
+  through type_number line d k m at has most =
+      by (slice_get whole.code.functions (first_of_type whole.code.functions type_number))
     where
       b : Bool
       b = whole.entries u m d
@@ -400,10 +398,10 @@ module _ (site : Site) where
       number : ℕ
       number = first_of_type whole.code.functions type_number
 
-      by : (o : Option CodeFunction) → gives_no_structure whole.code o ≡ true
-          → B (through_of whole.map whole.code c o number line d k b) (call_made whole.code o b D)
-      by None ok = stopped site (BadCall line) (value_of b D) (temporary_named site d b (omega (arith, most)))
-      by (Some one) ok = either (length one.parameters == k) refl
+      by : (o : Option CodeFunction)
+          → B (through_of operators whole.map whole.code c o number line d k b) (call_made whole.code o b D)
+      by None = stopped site (BadCall line) (value_of b D) (temporary_named site d b (omega (arith, most)))
+      by (Some one) = either (length one.parameters == k) refl
         where
           kind : Kind
           kind = result_of whole.code one
@@ -412,7 +410,8 @@ module _ (site : Site) where
           takes = map (λ v. passed_as v.kind) one.parameters
 
           either : (same : Bool) → (length one.parameters == k) ≡ same
-              → B (if same then through_code whole.map whole.code c one number line d b else End (Abort line) ∷ [])
+              → B (if same then through_code operators whole.map whole.code c one number line d b
+              else End (Abort line) ∷ [])
               (result_made kind b D)
           either false other = stopped site (Abort line) (result_made kind b D) (result_kept d kind b (omega (arith, most)))
           either true agreed =
@@ -429,9 +428,9 @@ module _ (site : Site) where
               let pointer = subst (λ z. AreIn (value_of true (temporary_register c z)) G) zero_first (all 0 (omega arith)) in
               let tests = callee_tests number line D s
               ++ (room_tests whole.map key line s ++ unknown_object_tests whole.map key line s) in
-              let argument_count = parameters_end one + area_words kind in
-              called_block p u P c G low tests takes
-              (CallAddress D q argument_count D (result_words kind)) kind b D (d + 1) q
+              let argument_count = parameters_end one in
+              called_block p u P c whole.code moves G low whole.map tests takes
+              (CallAddress D q argument_count D (result_words kind)) kind b d (d + 1) q
               (followed p u P G (callee_tests number line D s)
               (room_tests whole.map key line s ++ unknown_object_tests whole.map key line s) 0 [] []
               (callee_flows p u P G low number line D s pointer (free_named site))
@@ -440,13 +439,12 @@ module _ (site : Site) where
               (room_flows p u P S low' whole.map key line s (keeps key pointer.1.1.1.0) own_two)
               (λ T keeps' made' low''.
               unknown_flows p u P T low'' whole.map key line s (keeps' key (keeps key pointer.1.1.1.0)) own_two)))
-              ok
               (all_ready i at has d (suc k) (λ y h. h) among takes 1 (omega (arith, count, long)))
               (moved_named site (d + 1) k (total_count takes) (omega (arith, most)) (takes_few one.parameters k count))
-              (temporary_named site d true (omega (arith, most)))
+              (temporary_named site d true (omega (arith, most))) (own site)
               (λ S keeps low' packs.
               call_address_flows p u P S low' D q argument_count D (result_words kind) (keeps D pointer.0)
-              (subst (AllFrom S q) (sym (takes_total one ok)) packs) (result_named d kind (omega (arith, most))))
+              (subst (AllFrom S q) (sym (takes_total one)) packs) (result_named d kind (omega (arith, most))))
               (λ E all. call_address_last p E D q argument_count D (result_words kind) all)
 
   -- ---- what a function gives back

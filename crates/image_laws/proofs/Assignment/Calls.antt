@@ -2,7 +2,7 @@
 use Rattle.std.proofs.Common.{◌≡◌, ◌⊎◌, inl, inr, ⊎_elim, ℕ, suc, ◌+◌, ◌*◌, ◌<◌, ◌≤◌, refl, ap, subst, arith}
 use Rattle.std.proofs.Common.{Bool, true, false, List, [], ◌∷◌, ◌++◌, length}
 use Rattle.std.specs.Prelude.{◌-◌, ◌^◌, map, if◌then◌else◌}
-use Rattle.std.proofs.lemmas.Bool.{cases_lt, false≢true}
+use Rattle.std.proofs.lemmas.Bool.{cases_lt}
 use Rattle.sb_base.specs.declared.ending.Ending.TheVariants.{Stack}
 use Rattle.addr_map.specs.declared.region.Region.TheVariants.{Stack as StackRegion, FreeLocks}
 use Rattle.addr_map.specs.Places.{MapSizes, region_start, region_end}
@@ -15,6 +15,7 @@ use Rattle.c_tree.specs.declared.expression.Kind.TheVariants.{Void, Scalar as Of
 use Rattle.c_tree.specs.declared.program.Variable.{Variable}
 use Rattle.source_meaning.specs.Blocks.{has_objects}
 use Rattle.tac_ir.specs.declared.function.CodeFunction.{CodeFunction}
+use Rattle.tac_ir.specs.declared.function.Tac.{Tac}
 use Rattle.flat_code.specs.declared.instruction.RightOperand.TheVariants.{Register, Number}
 use Rattle.flat_code.specs.declared.instruction.FlatInstruction.{FlatInstruction}
 use Rattle.flat_code.specs.declared.instruction.FlatInstruction.TheVariants.{Constant, Move, Operate, Load, Branch}
@@ -30,13 +31,15 @@ use Rattle.runtime_functions.specs.declared.status.ReturnStatus.{ReturnStatus}
 use Rattle.runtime_functions.specs.declared.status.ReturnStatus.TheVariants.{Completed}
 use Rattle.runtime_functions.specs.Library.{Passed, NoValue, OneWord, WithEntry, register_count, total_count}
 use Rattle.metadata_plan.specs.Blocks.{call_tests}
-use Rattle.metadata_relation.specs.Registers.{passed_as, temporary_register, result_words, area_words}
+use Rattle.metadata_plan.specs.OperatorLists.Operators.{operators}
+use Rattle.metadata_relation.specs.Registers.{first_free, passed_as, temporary_register, result_words}
 use Rattle.metadata_relation.specs.Registers.{parameter_words, total}
 use Rattle.metadata_relation.specs.Blocks.{untagged, pack_value, pack, unpack, status_tests, status_code}
-use Rattle.metadata_relation.specs.Blocks.{top_cell, space_test, object_tests, result_entry}
+use Rattle.metadata_relation.specs.Blocks.{top_cell, space_test, object_tests, await_result, result_code, runtime_number}
 use Rattle.metadata_relation.specs.Blocks.{callee_tests, room_tests, units_tests, unknown_object_tests}
+use Rattle.metadata_relation.specs.Structures.{move_area_place}
 use Rattle.image_laws.specs.Plans.Assignment.{Registers, IsOneOf}
-use Rattle.image_laws.specs.Plans.Instructions.{numbers_from, value_of, result_made, is_no_structure}
+use Rattle.image_laws.specs.Plans.Instructions.{numbers_from, value_of, result_made}
 use Rattle.image_laws.proofs.Assignment.Flows.{Flows, LastIn, followed, and_then, wider, last_append, last_ends}
 use Rattle.image_laws.proofs.Assignment.Straight.{AllFrom, AreIn, are_in_more, one_in, Straight, straight, nothing}
 use Rattle.image_laws.proofs.Assignment.Straight.{along}
@@ -48,6 +51,7 @@ use Rattle.image_laws.proofs.Assignment.Temporaries.{all_one_of}
 use Rattle.image_laws.proofs.Assignment.Pieces.{numbers_have, all_from, later_from, value_in, one_from}
 use Rattle.image_laws.proofs.Assignment.Pieces.{value_from, from_first, call_flows, some_behind, less_value}
 use Rattle.image_laws.proofs.Assignment.Accesses.{AreOwn}
+use Rattle.image_laws.proofs.Assignment.Structures.{Serves, awaited, await_flows, receive_last, received_block}
 
 -- ---- how values are handed over
 
@@ -392,36 +396,6 @@ module _ (p : FlatProgram) (u : ℕ) (P : Registers) where
   unpacked_block G low OneWord b d r given named = word_block p u P G low b d r (from_first G r 0 given) named
   unpacked_block G low WithEntry b d r given named = moved_block p u P G low b d r (value_in G b r given) named
 
-  -- where a call has put it there, its entry is that of no pointer where it has none
-  pub result_block : (G : Registers) → ((y : ℕ) → G y → P y) → (call : FlatInstruction) (kind : Kind) (b : Bool) (d : ℕ)
-      → is_no_structure kind ≡ true → AreIn (value_of true d) P
-      → Flows p u P G (call ∷ []) 0 (numbers_from d (result_words kind))
-      → ((E : Registers) → AllFrom E d (result_words kind) → LastIn p E (call ∷ []))
-      → Block p u P G (call ∷ result_entry kind b d) 0 (result_made kind b d)
-  result_block G low call kind b d ok named f last = by kind ok f last
-    where
-      word : Flows p u P G (call ∷ []) 0 (d ∷ []) → ((E : Registers) → AllFrom E d 1 → LastIn p E (call ∷ []))
-          → Block p u P G (call ∷ untagged b d) 0 (value_of b d)
-      word f last =
-          let E = λ (y : ℕ). G y ⊎ IsOneOf (value_of b d) y in
-          integer p u P G (call ∷ []) b d (less_value P b d named).1 f (last E (one_from E d (inr (inl refl))))
-
-      by : (k : Kind) → is_no_structure k ≡ true → Flows p u P G (call ∷ []) 0 (numbers_from d (result_words k))
-          → ((E : Registers) → AllFrom E d (result_words k) → LastIn p E (call ∷ []))
-          → Block p u P G (call ∷ result_entry k b d) 0 (result_made k b d)
-      by Void ok f last = word f last
-      by (OfScalar (Integer t)) ok f last = word f last
-      by (Array n) ok f last = word f last
-      by (Structure n) ok f last = absurd (false≢true ok)
-      by (OfScalar Pointer) ok f last =
-          let E = λ (y : ℕ). G y ⊎ IsOneOf (value_of true d) y in
-          let made = value_in (IsOneOf (numbers_from d 5)) true d (numbers_have d 5) in
-          record {
-            flows = wider p u P G (call ∷ []) 0 (numbers_from d 5) (value_of true d) f
-                (λ y m. inr (one_in (value_of true d) (IsOneOf (numbers_from d 5)) y made m));
-            last = last E (value_from E d (all_one_of (value_of true d) E (λ y m. inr m)));
-          }
-
   -- ---- functions of the runtime
 
   module _ (c : CodeFunction) where
@@ -486,50 +460,108 @@ module _ (p : FlatProgram) (u : ℕ) (P : Registers) where
 
     -- ---- functions of the text
 
-    -- behind all tests the arguments are packed, and the call puts its result into its temporary
-    pub called_block : (G : Registers) → ((y : ℕ) → G y → P y) → (tests : List FlatInstruction) (takes : List Passed)
-        (call : FlatInstruction) (kind : Kind) (b : Bool) (into first r : ℕ) → Flows p u P G tests 0 []
-        → is_no_structure kind ≡ true → AreReady G c takes first → AllFrom P r (total_count takes)
-        → AreIn (value_of true into) P
-        → ((S : Registers) → ((y : ℕ) → G y → S y) → ((y : ℕ) → S y → P y) → AllFrom S r (total_count takes)
-        → Flows p u P S (call ∷ []) 0 (numbers_from into (result_words kind)))
-        → ((E : Registers) → AllFrom E into (result_words kind) → LastIn p E (call ∷ []))
-        → Block p u P G (tests ++ (pack c takes r first ++ (call ∷ result_entry kind b into))) 0
-        (result_made kind b into)
-    called_block G low tests takes call kind b into first r f ok ready packs named calls last =
-        let E = λ (y : ℕ). G y ⊎ IsOneOf (result_made kind b into) y in
-        let rest = call ∷ result_entry kind b into in
-        let moves = pack c takes r first in
-        record {
-          flows = followed p u P G tests (moves ++ rest) 0 [] (result_made kind b into) f
-              (λ S keeps made low'.
-              followed p u P S moves rest 0 (packed takes r) (result_made kind b into)
-              (pack_flows p u P c takes S low' r first (ready_more G S c keeps takes first ready) packs)
-              (λ T keeps' made' low''.
-              (result_block T low'' call kind b into ok named
-              (calls T (λ y g. keeps' y (keeps y g)) low'' (λ j lt. made' (r + j) (packed_has takes r j lt))) last).flows));
-          last = last_append p E tests (moves ++ rest) (some_behind moves rest (omega arith))
-              (last_append p E moves rest (omega arith) (result_last kind ok last));
-        }
-      where
-        word_last : (b : Bool) → ((E : Registers) → AllFrom E into 1 → LastIn p E (call ∷ []))
-            → LastIn p (λ y. G y ⊎ IsOneOf (value_of b into) y) (call ∷ untagged b into)
-        word_last b last =
-            last_untagged p u P (λ y. G y ⊎ IsOneOf (value_of b into) y) (call ∷ []) b into
-            (last (λ y. G y ⊎ IsOneOf (value_of b into) y)
-            (one_from (λ y. G y ⊎ IsOneOf (value_of b into) y) into (inr (inl refl))))
+    module _ (t : Tac) (moves : Serves p (runtime_number t move_area_place) 7) where
+      -- Where a call has put its result there, its entry is that of no pointer where it has none, and a structure is moved.
+      result_block : (G : Registers) → ((y : ℕ) → G y → P y) → (call : FlatInstruction) (kind : Kind) (b : Bool) (d : ℕ)
+          → AreIn (value_of true (temporary_register c d)) P → AreOwn P (first_free c) 16
+          → AreIn (awaited kind (first_free c)) G
+          → Flows p u P G (call ∷ []) 0 (numbers_from (temporary_register c d) (result_words kind))
+          → ((E : Registers) → AllFrom E (temporary_register c d) (result_words kind) → LastIn p E (call ∷ []))
+          → Block p u P G (call ∷ result_code t c kind b d) 0 (result_made kind b (temporary_register c d))
+      result_block G low call kind b d named own waits f last = by kind waits f last
+        where
+          into : ℕ
+          into = temporary_register c d
 
-        result_last : (k : Kind) → is_no_structure k ≡ true
-            → ((E : Registers) → AllFrom E into (result_words k) → LastIn p E (call ∷ []))
-            → LastIn p (λ y. G y ⊎ IsOneOf (result_made k b into) y) (call ∷ result_entry k b into)
-        result_last Void ok last = word_last b last
-        result_last (OfScalar (Integer t)) ok last = word_last b last
-        result_last (Array n) ok last = word_last b last
-        result_last (Structure n) ok last = absurd (false≢true ok)
-        result_last (OfScalar Pointer) ok last =
-            last (λ y. G y ⊎ IsOneOf (value_of true into) y)
-            (value_from (λ y. G y ⊎ IsOneOf (value_of true into) y) into
-            (all_one_of (value_of true into) (λ y. G y ⊎ IsOneOf (value_of true into) y) (λ y m. inr m)))
+          word : Flows p u P G (call ∷ []) 0 (into ∷ []) → ((E : Registers) → AllFrom E into 1 → LastIn p E (call ∷ []))
+              → Block p u P G (call ∷ untagged b into) 0 (value_of b into)
+          word f last =
+              let E = λ (y : ℕ). G y ⊎ IsOneOf (value_of b into) y in
+              integer p u P G (call ∷ []) b into (less_value P b into named).1 f
+              (last E (one_from E into (inr (inl refl))))
+
+          by : (k : Kind) → AreIn (awaited k (first_free c)) G
+              → Flows p u P G (call ∷ []) 0 (numbers_from into (result_words k))
+              → ((E : Registers) → AllFrom E into (result_words k) → LastIn p E (call ∷ []))
+              → Block p u P G (call ∷ result_code t c k b d) 0 (result_made k b into)
+          by Void waits f last = word f last
+          by (OfScalar (Integer ty)) waits f last = word f last
+          by (Array n) waits f last = word f last
+          by (Structure n) waits f last =
+              received_block p u P G low call (runtime_number t) b into (first_free c) moves (less_value P b into named) own
+              waits f
+          by (OfScalar Pointer) waits f last =
+              let E = λ (y : ℕ). G y ⊎ IsOneOf (value_of true into) y in
+              let made = value_in (IsOneOf (numbers_from into 5)) true into (numbers_have into 5) in
+              record {
+                flows = wider p u P G (call ∷ []) 0 (numbers_from into 5) (value_of true into) f
+                    (λ y m. inr (one_in (value_of true into) (IsOneOf (numbers_from into 5)) y made m));
+                last = last E (value_from E into (all_one_of (value_of true into) E (λ y m. inr m)));
+              }
+
+      -- Behind all tests a result is awaited and the arguments are packed, and the call puts its result into its temporary.
+      pub called_block : (G : Registers) → ((y : ℕ) → G y → P y) → (m : MapSizes) (tests : List FlatInstruction)
+          (takes : List Passed) (call : FlatInstruction) (kind : Kind) (b : Bool) (d first r : ℕ)
+          → Flows p u P G tests 0 [] → AreReady G c takes first → AllFrom P r (total_count takes)
+          → AreIn (value_of true (temporary_register c d)) P → AreOwn P (first_free c) 16
+          → ((S : Registers) → ((y : ℕ) → G y → S y) → ((y : ℕ) → S y → P y) → AllFrom S r (total_count takes)
+          → Flows p u P S (call ∷ []) 0 (numbers_from (temporary_register c d) (result_words kind)))
+          → ((E : Registers) → AllFrom E (temporary_register c d) (result_words kind) → LastIn p E (call ∷ []))
+          → Block p u P G
+          (tests
+          ++ (await_result operators m t c kind d ++ (pack c takes r first ++ (call ∷ result_code t c kind b d)))) 0
+          (result_made kind b (temporary_register c d))
+      called_block G low m tests takes call kind b d first r f ready packs named own calls last =
+          let E = λ (y : ℕ). G y ⊎ IsOneOf made y in
+          let await = await_result operators m t c kind d in
+          let rest = call ∷ result_code t c kind b d in
+          let args = pack c takes r first in
+          let some = some_behind args rest (omega arith) in
+          record {
+            flows = followed p u P G tests (await ++ (args ++ rest)) 0 [] made f
+                (λ S keeps none low'.
+                followed p u P S await (args ++ rest) 0 waited made (await_flows p u P S low' m t c kind d own)
+                (λ T keeps' waits low''.
+                followed p u P T args rest 0 (packed takes r) made
+                (pack_flows p u P c takes T low'' r first
+                (ready_more G T c (λ y g. keeps' y (keeps y g)) takes first ready) packs)
+                (λ U keeps3 all low3.
+                (result_block U low3 call kind b d named own
+                (are_in_more waited T U keeps3 (all_one_of waited T waits))
+                (calls U (λ y g. keeps3 y (keeps' y (keeps y g))) low3 (λ j lt. all (r + j) (packed_has takes r j lt)))
+                last).flows)));
+            last = last_append p E tests (await ++ (args ++ rest)) (some_behind await (args ++ rest) some)
+                (last_append p E await (args ++ rest) some
+                (last_append p E args rest (omega arith) (result_last kind last)));
+          }
+        where
+          into : ℕ
+          into = temporary_register c d
+
+          made : List ℕ
+          made = result_made kind b into
+
+          waited : List ℕ
+          waited = awaited kind (first_free c)
+
+          word_last : (b : Bool) → ((E : Registers) → AllFrom E into 1 → LastIn p E (call ∷ []))
+              → LastIn p (λ y. G y ⊎ IsOneOf (value_of b into) y) (call ∷ untagged b into)
+          word_last b last =
+              last_untagged p u P (λ y. G y ⊎ IsOneOf (value_of b into) y) (call ∷ []) b into
+              (last (λ y. G y ⊎ IsOneOf (value_of b into) y)
+              (one_from (λ y. G y ⊎ IsOneOf (value_of b into) y) into (inr (inl refl))))
+
+          result_last : (k : Kind) → ((E : Registers) → AllFrom E into (result_words k) → LastIn p E (call ∷ []))
+              → LastIn p (λ y. G y ⊎ IsOneOf (result_made k b into) y) (call ∷ result_code t c k b d)
+          result_last Void last = word_last b last
+          result_last (OfScalar (Integer ty)) last = word_last b last
+          result_last (Array n) last = word_last b last
+          result_last (Structure n) last =
+              receive_last p u P (λ y. G y ⊎ IsOneOf (value_of b into) y) call (runtime_number t) b into (first_free c)
+          result_last (OfScalar Pointer) last =
+              last (λ y. G y ⊎ IsOneOf (value_of true into) y)
+              (value_from (λ y. G y ⊎ IsOneOf (value_of true into) y) into
+              (all_one_of (value_of true into) (λ y. G y ⊎ IsOneOf (value_of true into) y) (λ y m. inr m)))
 
 -- ---- how many registers
 
@@ -542,9 +574,3 @@ total_few [] = omega arith
 total_few (NoValue ∷ vs) = let le = total_few vs in omega (arith, le)
 total_few (OneWord ∷ vs) = let le = total_few vs in omega (arith, le)
 total_few (WithEntry ∷ vs) = let le = total_few vs in omega (arith, le)
-
-pub no_area : (kind : Kind) → is_no_structure kind ≡ true → area_words kind ≡ 0
-no_area (Structure n) e = absurd (false≢true e)
-no_area Void e = refl
-no_area (OfScalar k) e = refl
-no_area (Array n) e = refl

@@ -32,7 +32,7 @@ use Rattle.metadata_relation.specs.Homes.{register_count}
 use Rattle.metadata_relation.specs.InlineCode.{InlineCode}
 use Rattle.metadata_relation.specs.InlineLists.{inline_lists}
 use Rattle.metadata_relation.specs.Laid.{function_of}
-use Rattle.metadata_relation.specs.Registers.{temporary_register, variable_register, parameters_end, area_words}
+use Rattle.metadata_relation.specs.Registers.{temporary_register, variable_register, parameters_end}
 use Rattle.metadata_relation.specs.Registers.{result_words, total, variable_words}
 use Rattle.metadata_relation.specs.Waiting.{Layout}
 use Rattle.metadata_relation.specs.Blocks.{Expansion, block, prologue, objects_of_body, result_of, runtime_number}
@@ -44,6 +44,7 @@ use Rattle.check_elim.specs.Paths.{Path, Start, On}
 use Rattle.image_laws.specs.Plans.Assignment.{IsOneOf, IsBegun, IsMadeBefore, AssignsAll, NamesBelow, HasOwnHomes}
 use Rattle.image_laws.specs.Plans.EntryLists.{AssignEntries}
 use Rattle.image_laws.specs.Plans.Instructions.{numbers_from, begin_made, body_registers, entered_by, made_registers}
+use Rattle.image_laws.specs.Plans.Instructions.{entered_registers, stored_registers, body_made}
 use Rattle.image_laws.specs.Plans.Instructions.{plain_count, IsSetOut, IsDefinite, HasCallees}
 use Rattle.image_laws.proofs.Plans.Places.{get_append}
 use Rattle.image_laws.proofs.Assignment.Laid.{plannable}
@@ -56,7 +57,7 @@ use Rattle.image_laws.proofs.Assignment.Instructions.{assigned}
 
 text_known : (l : Layout) (f : ℕ) (callee : CodeFunction) (o : Option FlatFunction)
     → ExpandsAt l.expansion f callee (l.address f) o
-    → (parameters_of o ≡ parameters_end callee + area_words (result_of l.expansion.code callee))
+    → (parameters_of o ≡ parameters_end callee)
     × (results_of o ≡ result_words (result_of l.expansion.code callee))
 text_known l f callee None h = absurd h
 text_known l f callee (Some g) h = (h.parameters, h.results)
@@ -92,19 +93,27 @@ module _ (e : Expansion) (u : ℕ) (c : CodeFunction) (parameters : ℕ) where
   on_path y _ (On n m i path at to) (inl h) = inl (entered_made i y h)
   on_path y _ (On n m i path at to) (inr h) = inr (on_path y n path h)
 
-  begun : parameters ≡ parameters_end c + area_words (result_of e.code c) → (x j : ℕ) (k : Scalar)
+  abbrev zeroed : List ℕ
+  zeroed = numbers_from (parameters_end c + 1) (total variable_words c.variables)
+
+  in_body : (y : ℕ) → IsOneOf (body_registers c) y → IsOneOf (body_made c) y
+  in_body y h = by (has_objects (objects_of_body c)) h
+    where
+      by : (b : Bool) → IsOneOf (if b then entered_registers c (objects_of_body c) else []) y
+          → IsOneOf (if b then entered_registers c (objects_of_body c) ++ stored_registers c c.parameters else []) y
+      by true h = one_left (entered_registers c (objects_of_body c)) (stored_registers c c.parameters) y h
+      by false h = h
+
+  begun : parameters ≡ parameters_end c → (x j : ℕ) (k : Scalar)
       → plain_type (all_variables c) x ≡ Some k → j < plain_count k
       → IsBegun parameters (begin_made c) (variable_register c x + j)
   begun same x j k at lt =
       ⊎_elim (λ low. inl (omega (arith, low, same)))
-      (λ b. inr (one_left zeroed (body_registers c) (variable_register c x + j)
+      (λ b. inr (one_left zeroed (body_made c) (variable_register c x + j)
       (subst (IsOneOf zeroed) (sym b.is) (numbers_have (parameters_end c + 1) (total variable_words c.variables) b.number b.low))))
       (stands c.parameters c.variables x j k at (few k j lt))
-    where
-      zeroed : List ℕ
-      zeroed = numbers_from (parameters_end c + 1) (total variable_words c.variables)
 
-  set_out : parameters ≡ parameters_end c + area_words (result_of e.code c) → AreClosed e.code c (e.entries u)
+  set_out : parameters ≡ parameters_end c → AreClosed e.code c (e.entries u)
       → IsDefinite e.code u c → IsSetOut e u c parameters (begin_made c)
   set_out same closed d = record {
     here = d.here;
@@ -113,7 +122,7 @@ module _ (e : Expansion) (u : ℕ) (c : CodeFunction) (parameters : ℕ) where
     variables = begun same;
     homes = λ n y i at one path.
         ⊎_elim
-        (λ h. inl (inr (one_right (numbers_from (parameters_end c + 1) (total variable_words c.variables)) (body_registers c) y h)))
+        (λ h. inl (inr (one_right zeroed (body_made c) y (in_body y h))))
         (λ h. inr (on_path y n path h)) (d.homes.homes n y i at one path);
   }
 

@@ -1,14 +1,19 @@
--- The blocks of structures: those that are assigned or stored, made of zeros, and taken.
+-- The blocks of structures: those that are assigned or stored, made of zeros, and taken; and what calls do for those that
+-- they give and parameters that are stored.
 use Rattle.std.proofs.Common.{◌≡◌, ◌⊎◌, inl, inr, ℕ, zero, suc, ◌+◌, ◌<◌, refl, ap, subst, arith, append_assoc}
-use Rattle.std.proofs.Common.{Bool, true, false, [], ◌∷◌, ◌++◌, length}
+use Rattle.std.proofs.Common.{Bool, true, false, List, [], ◌∷◌, ◌++◌, length}
+use Rattle.addr_map.specs.declared.region.Region.TheVariants.{StructureValues}
 use Rattle.rv_isa.specs.declared.instruction.BranchOp.TheVariants.{Bne}
 use Rattle.rv_isa.specs.declared.instruction.RegOp.TheVariants.{Add}
-use Rattle.addr_map.specs.Places.{MapSizes}
+use Rattle.addr_map.specs.Places.{MapSizes, region_start}
+use Rattle.c_tree.specs.declared.expression.Kind.{Kind}
+use Rattle.c_tree.specs.declared.expression.Kind.TheVariants.{Void, Scalar as OfScalar, Structure, Array}
 use Rattle.tac_ir.specs.declared.function.CodeFunction.{CodeFunction}
 use Rattle.tac_ir.specs.declared.function.Tac.{Tac}
 use Rattle.flat_code.specs.declared.instruction.RightOperand.TheVariants.{Number, Register}
-use Rattle.flat_code.specs.declared.instruction.FlatInstruction.TheVariants.{Branch, Call, Charged, JumpForward, Move}
-use Rattle.flat_code.specs.declared.instruction.FlatInstruction.TheVariants.{Operate}
+use Rattle.flat_code.specs.declared.instruction.FlatInstruction.{FlatInstruction}
+use Rattle.flat_code.specs.declared.instruction.FlatInstruction.TheVariants.{Branch, Call, Charged, Constant, JumpForward}
+use Rattle.flat_code.specs.declared.instruction.FlatInstruction.TheVariants.{Move, Operate}
 use Rattle.flat_code.specs.declared.function.FlatProgram.{FlatProgram}
 use Rattle.flat_code.specs.Calls.{function_in}
 use Rattle.flat_code.specs.Meaning.{parameters_of, results_of}
@@ -16,16 +21,18 @@ use Rattle.flat_operators.specs.Operators.{constant_code}
 use Rattle.shadow_space.specs.Form.{EntryCode}
 use Rattle.lib_wrappers.specs.AreaRoutines.Areas.{whole_words}
 use Rattle.metadata_plan.specs.OperatorLists.Operators.{operators}
-use Rattle.metadata_relation.specs.Registers.{home_register}
-use Rattle.metadata_relation.specs.Blocks.{move_value, part_address}
-use Rattle.metadata_relation.specs.Structures.{area_code, begin_area_code, bound_code, copy_code, copy_place, hold_area}
+use Rattle.metadata_relation.specs.Registers.{first_free, home_register}
+use Rattle.metadata_relation.specs.Blocks.{await_result, move_value, part_address}
+use Rattle.metadata_relation.specs.Structures.{area_code, await_code, begin_area_code, bound_code, callee_part_code}
+use Rattle.metadata_relation.specs.Structures.{copy_code, copy_place, hold_area}
 use Rattle.metadata_relation.specs.Structures.{move_area_place, move_part, part_call_code, put_area_place, put_code}
+use Rattle.metadata_relation.specs.Structures.{receive_code, store_structure_code}
 use Rattle.metadata_relation.specs.Structures.{take_area_place, take_part_code, take_place_code, take_structure_code}
 use Rattle.metadata_relation.specs.Structures.{zero_area_place, zero_structure_code}
 use Rattle.image_laws.specs.Plans.Assignment.{Registers, IsOneOf}
 use Rattle.image_laws.specs.Plans.Instructions.{value_of}
 use Rattle.image_laws.proofs.Assignment.Flows.{Flows, LastIn, followed, and_then, wider, last_append, last_ends}
-use Rattle.image_laws.proofs.Assignment.Straight.{AllFrom, AreIn, are_in_more, straight}
+use Rattle.image_laws.proofs.Assignment.Straight.{AllFrom, AreIn, are_in_more, nothing, straight}
 use Rattle.image_laws.proofs.Assignment.Choices.{either}
 use Rattle.image_laws.proofs.Assignment.Checks.{part_flows}
 use Rattle.image_laws.proofs.Assignment.Values.{Block, move_flows, constant_flows}
@@ -65,6 +72,14 @@ five_own P x own = (
     ),
   ),
 )
+
+-- what registers have before a call whose result is a structure, so that it is moved behind it
+abbrev pub awaited_from : (scratch : ℕ) → List ℕ
+awaited_from s = s ∷ (s + 1) ∷ (s + 2) ∷ (s + 3) ∷ value_of true (s + 4)
+
+abbrev pub awaited : Kind → (scratch : ℕ) → List ℕ
+awaited (Structure size) s = awaited_from s
+awaited kind s = []
 
 -- a function of the runtime takes so many arguments, and gives its status alone
 abbrev pub Serves : FlatProgram → (function takes : ℕ) → Type 0
@@ -428,3 +443,116 @@ module _ (p : FlatProgram) (u : ℕ) (P : Registers) where
         last = last_append p E begin (choice ++ hold) (some_behind choice hold (hold_some b d s (s + 1)))
             (last_append p E choice hold (hold_some b d s (s + 1)) (hold_last E b d s (s + 1)));
       })
+
+  -- ---- results
+
+  -- the part that is all of what a function leaves which is called next
+  callee_flows : (G : Registers) → ((y : ℕ) → G y → P y) → (map : MapSizes) (size r : ℕ) → AreIn (value_of true r) P
+      → Flows p u P G (callee_part_code operators map size r) 0 (value_of true r)
+  callee_flows G low map size r (p0, (p1, (p2, (p3, (p4, _))))) =
+      let begin = constant_code (r + 1) (region_start map StructureValues) in
+      let sum = Operate Add r r (Register (r + 1)) ∷ Move (r + 1) r ∷ [] in
+      let bound = bound_code operators size r (r + 2) in
+      let zeros = Constant (r + 3) 0 ∷ Constant (r + 4) 0 ∷ [] in
+      followed p u P G (Charged r ∷ []) (begin ++ (sum ++ (bound ++ zeros))) 0 (r ∷ []) (value_of true r)
+      (straight p u P 0 G (Charged r ∷ []) (tt, p0, tt, tt) low (r ∷ []) (inr refl, tt))
+      (λ S keeps made low'.
+      followed p u P S begin (sum ++ (bound ++ zeros)) 0 ((r + 1) ∷ []) (value_of true r)
+      (constant_flows p u P S low' (r + 1) (region_start map StructureValues) p1)
+      (λ T keeps' made' low''.
+      followed p u P T sum (bound ++ zeros) 0 (r ∷ (r + 1) ∷ []) (value_of true r)
+      (straight p u P 0 T sum
+      ((keeps' r (made r (inl refl)), made' (r + 1) (inl refl)), p0, tt, (inr refl, p1, tt, tt)) low''
+      (r ∷ (r + 1) ∷ []) (inl (inr refl), (inr refl, tt)))
+      (λ U keeps3 made3 low3.
+      followed p u P U bound zeros 0 ((r + 2) ∷ []) (value_of true r)
+      (bound_flows U low3 size r (r + 2) (made3 r (inl refl)) p2)
+      (λ V keeps4 made4 low4.
+      straight p u P 0 V zeros (tt, p3, tt, (tt, p4, tt, tt)) low4 (value_of true r) (
+        inl (inl (keeps4 r (made3 r (inl refl)))),
+        (
+          inl (inl (keeps4 (r + 1) (made3 (r + 1) (inr (inl refl))))),
+          (
+            inl (inl (made4 (r + 2) (inl refl))),
+            (inl (inr refl), (inr refl, tt)),
+          ),
+        ),
+      )))))
+
+  structure_awaited : (G : Registers) → ((y : ℕ) → G y → P y) → (map : MapSizes) (t : Tac) (c : CodeFunction)
+      (size d s : ℕ) → AreOwn P s 16
+      → Flows p u P G (await_code operators map t c size d s) 0 (awaited_from s)
+  structure_awaited G low map t c size d s own =
+      let begin = begin_area_code operators map t c size d s in
+      let part = callee_part_code operators map size (s + 4) in
+      and_then p u P G begin (constant_code (s + 3) size ++ part) 0 (s ∷ (s + 1) ∷ (s + 2) ∷ [])
+      ((s + 3) ∷ value_of true (s + 4)) (begin_flows G low map t c size d s own)
+      (λ S keeps made low'.
+      and_then p u P S (constant_code (s + 3) size) part 0 ((s + 3) ∷ []) (value_of true (s + 4))
+      (constant_flows p u P S low' (s + 3) size (own (s + 3) (omega arith) (omega arith)))
+      (λ T keeps' made' low''.
+      callee_flows T low'' map size (s + 4)
+      (five_own P (s + 4) (fewer_own P s 16 (s + 4) 5 (omega arith) (omega arith) own))))
+
+  pub await_flows : (G : Registers) → ((y : ℕ) → G y → P y) → (map : MapSizes) (t : Tac) (c : CodeFunction)
+      (kind : Kind) (d : ℕ) → AreOwn P (first_free c) 16
+      → Flows p u P G (await_result operators map t c kind d) 0 (awaited kind (first_free c))
+  await_flows G low map t c Void d own = nothing p u P G low
+  await_flows G low map t c (OfScalar k) d own = nothing p u P G low
+  await_flows G low map t c (Structure size) d own = structure_awaited G low map t c size d (first_free c) own
+  await_flows G low map t c (Array n) d own = nothing p u P G low
+
+  pub receive_last : (E : Registers) (call : FlatInstruction) (number : ℕ → ℕ) (b : Bool) (d s : ℕ)
+      → LastIn p E (call ∷ receive_code number b d s)
+  receive_last E call number b d s =
+      last_append p E (call ∷ Call (number move_area_place) (s + 2) (s + 9) ∷ []) (hold_area b d s (s + 1))
+      (hold_some b d s (s + 1)) (hold_last E b d s (s + 1))
+
+  -- behind a call that leaves a structure it is moved
+  pub received_block : (G : Registers) → ((y : ℕ) → G y → P y) → (call : FlatInstruction) (number : ℕ → ℕ) (b : Bool)
+      (d s : ℕ) → Serves p (number move_area_place) 7 → AreIn (value_of b d) P → AreOwn P s 16
+      → AreIn (awaited_from s) G → Flows p u P G (call ∷ []) 0 []
+      → Block p u P G (call ∷ receive_code number b d s) 0 (value_of b d)
+  received_block G low call number b d s serves named own (area, (bound, (into, (size, part)))) f =
+      let move = Call (number move_area_place) (s + 2) (s + 9) ∷ [] in
+      let hold = hold_area b d s (s + 1) in
+      let second : s + 3 ≡ s + 2 + 1 = omega arith in
+      let third : s + 4 ≡ s + 2 + 2 = omega arith in
+      record {
+        flows = followed p u P G (call ∷ []) (move ++ hold) 0 [] (value_of b d) f
+            (λ S keeps made low'.
+            followed p u P S move hold 0 ((s + 9) ∷ []) (value_of b d)
+            (call_flows p u P S low' (number move_area_place) (s + 2) (s + 9) 7 1 serves.0 serves.1
+            (seven_from S (s + 2) (keeps (s + 2) into) (subst S second (keeps (s + 3) size))
+            (subst (λ z. AllFrom S z 5) third
+            (value_from S (s + 4) (are_in_more (value_of true (s + 4)) G S keeps part))))
+            (one_from P (s + 9) (own (s + 9) (omega arith) (omega arith))))
+            (λ T keeps' made' low''.
+            hold_flows T low'' b d s (s + 1) (keeps' s (keeps s area)) (keeps' (s + 1) (keeps (s + 1) bound)) named));
+        last = receive_last (λ y. G y ⊎ IsOneOf (value_of b d) y) call number b d s;
+      }
+
+  -- ---- parameters
+
+  pub parameter_stored : (G : Registers) → ((y : ℕ) → G y → P y) → (number : ℕ → ℕ) (size home a s : ℕ)
+      → Serves p (number put_area_place) 7 → G home → AreIn (value_of true a) G → AreOwn P s 8
+      → Flows p u P G (store_structure_code operators number size home a s) 0 ((s + 7) ∷ [])
+  parameter_stored G low number size home a s puts there given own =
+      let part = part_call_code operators (number put_area_place) size a s in
+      followed p u P G (Move s home ∷ []) part 0 (s ∷ []) ((s + 7) ∷ [])
+      (straight p u P 0 G (Move s home ∷ []) (there, own s (omega arith) (omega arith), tt, tt) low (s ∷ [])
+      (inr refl, tt))
+      (λ S keeps made low'.
+      wider p u P S part 0 ((s + 1) ∷ (value_of true (s + 2) ++ ((s + 7) ∷ []))) ((s + 7) ∷ [])
+      (part_call_flows S low' (number put_area_place) size a s puts (are_in_more (value_of true a) G S keeps given)
+      (made s (inl refl)) own)
+      (λ y one. inr (inr (inr (inr (inr (inr (inr one))))))))
+
+  pub parameter_last : (E : Registers) (number : ℕ → ℕ) (size home a s : ℕ) → Serves p (number put_area_place) 7
+      → E (s + 7) → LastIn p E (store_structure_code operators number size home a s)
+  parameter_last E number size home a s puts e =
+      let size_code = constant_code (s + 1) size in
+      let call = move_part (s + 2) a ++ (Call (number put_area_place) s (s + 7) ∷ []) in
+      last_append p E (Move s home ∷ []) (size_code ++ call) (some_behind size_code call (omega arith))
+      (last_append p E size_code call (omega arith)
+      (call_last p E (number put_area_place) s (s + 7) 1 puts.1 (one_from E (s + 7) e)))

@@ -1,9 +1,10 @@
 -- Blocks of an expansion are of instructions that the machine has.
 use Rattle.std.proofs.Common.{◌≡◌, inl, ℕ, zero, suc, ◌+◌, ◌*◌, ◌^◌, ◌<◌, ◌≤◌, sym, subst, arith, Bool, true, false}
-use Rattle.std.proofs.Common.{List, []}
+use Rattle.std.proofs.Common.{List, [], refl}
 use Rattle.std.proofs.Common.{◌∷◌, ◌++◌, length, Option, Some, None, nat_lt}
 use Rattle.std.specs.Prelude.{◌==◌, if◌then◌else◌, slice_get}
 use Rattle.std.proofs.lemmas.Bool.{and_parts, ltb-true}
+use Rattle.std.proofs.lemmas.Option.{same_Some, none-some}
 use Rattle.sb_base.specs.declared.ending.Ending.TheVariants.{Abort}
 use Rattle.addr_map.specs.declared.region.Region.TheVariants.{Locks}
 use Rattle.addr_map.specs.Places.{region_start, function_address}
@@ -80,7 +81,7 @@ use Rattle.image_laws.proofs.Encoding.Parts.{difference_fit}
 use Rattle.image_laws.proofs.Encoding.Parts.{narrow_fit, load_fit, store_fit, new_integer_fit, new_address_fit}
 use Rattle.image_laws.proofs.Encoding.Parts.{left_fit}
 use Rattle.image_laws.proofs.Encoding.Parts.{status_fit, pack_fit, unpack_fit, fit_if, part_fit, bytes_fit, put_fit}
-use Rattle.image_laws.proofs.Encoding.Parts.{take_structure_fit, zero_structure_fit}
+use Rattle.image_laws.proofs.Encoding.Parts.{store_structure_fit, take_structure_fit, zero_structure_fit}
 use Rattle.image_laws.proofs.Encoding.Checks.{judge_fits}
 use Rattle.image_laws.proofs.Encoding.Calls.{call_fits, through_fits, enter_fits}
 use Rattle.image_laws.proofs.Images.Instructions as plain
@@ -93,6 +94,12 @@ first_least (c ∷ cs) type_number = by (c.type_number == type_number) (first_le
         → (if b then 0 else suc (first_of_type cs type_number)) ≤ length (c ∷ cs)
     by true rest = omega arith
     by false rest = omega (arith, rest)
+
+-- a variable in front of others
+first_at : (xs ys : List Variable) (k : ℕ) (v : Variable) → slice_get xs k ≡ Some v → at_number (xs ++ ys) k ≡ v
+first_at [] ys k v at = absurd (none-some v at)
+first_at (x ∷ xs) ys zero v at = same_Some x v at
+first_at (x ∷ xs) ys (suc k) v at = first_at xs ys k v at
 
 module _ (whole : Expansion) (u : ℕ) (c : CodeFunction) (read write : EntryCode)
     (entries : FitEntries read write whole.map) (places : HasShortPlaces whole.map) (code : FitsCode whole)
@@ -402,13 +409,13 @@ module _ (whole : Expansion) (u : ℕ) (c : CodeFunction) (read write : EntryCod
   block_fits (tac.Print x line d n m) words =
       print_fits (pieces_or_none (pieces (text_in whole.code x))) line d (whole.entries u m d) words.0 words.1
   block_fits (tac.Call f line d n m) words =
-      call_fits whole.map places whole.code c (function_in whole.code f) f line d n (whole.entries u m d) words
+      call_fits whole.map places whole.code c (function_in whole.code f) f line d n (whole.entries u m d) words.0 words.1
   block_fits (tac.CallThrough type_number line d n m) words =
       let kind = first_of_type whole.code.functions type_number in
       let few = code.few in
       let least = first_least whole.code.functions type_number in
       through_fits whole.map places whole.code c (slice_get whole.code.functions kind) kind line d n (whole.entries u m d)
-      (omega (arith, few, least)) words
+      (omega (arith, few, least)) words.0 words.1
   block_fits (tac.EnterBlock b line m) words =
       enter_fits whole.map places whole.code c (objects_in (Some c) b) line words.0 words.1
   block_fits (tac.LeaveBlock b m) words =
@@ -422,26 +429,37 @@ module _ (whole : Expansion) (u : ℕ) (c : CodeFunction) (read write : EntryCod
   zeros_fit r zero = tt
   zeros_fit r (suc n) = (short 0 (omega arith), zeros_fit (r + 1) n)
 
-  parameter_fits : (kind : Kind) (x : ℕ) → AreFit (store_parameter Lists c kind x)
-  parameter_fits (OfScalar k) x =
+  parameter_fits : (kind : Kind) (x : ℕ) → size_of_kind kind < 2 ^ 63
+      → AreFit (store_parameter Lists whole.code c kind x)
+  parameter_fits (OfScalar k) x low =
       store_fit read write whole.map entries (home_register c x) (held_scalar k (variable_register c x)) (first_free c)
-  parameter_fits Void x = abort 1 (omega arith)
-  parameter_fits (Structure n) x = abort 1 (omega arith)
-  parameter_fits (Array n) x = abort 1 (omega arith)
+  parameter_fits Void x low = abort 1 (omega arith)
+  parameter_fits (Structure n) x low =
+      store_structure_fit number n (home_register c x) (variable_register c x) (first_free c) (omega (arith, low))
+  parameter_fits (Array n) x low = abort 1 (omega arith)
 
-  parameters_fit : (vs : List Variable) (x : ℕ) → AreFit (store_parameters Lists c x vs)
-  parameters_fit [] x = tt
-  parameters_fit (v ∷ vs) x =
-      fit_append (if v.is_object then store_parameter Lists c v.kind x else []) (store_parameters Lists c (suc x) vs)
-      (fit_if v.is_object (store_parameter Lists c v.kind x) [] (parameter_fits v.kind x) tt) (parameters_fit vs (suc x))
+  parameters_fit : (vs : List Variable) (x : ℕ)
+      → ((k : ℕ) (v : Variable) → slice_get vs k ≡ Some v → size_of_kind v.kind < 2 ^ 63)
+      → AreFit (store_parameters Lists whole.code c x vs)
+  parameters_fit [] x low = tt
+  parameters_fit (v ∷ vs) x low =
+      let one = store_parameter Lists whole.code c v.kind x in
+      fit_append (if v.is_object then one else []) (store_parameters Lists whole.code c (suc x) vs)
+      (fit_if v.is_object one [] (parameter_fits v.kind x (low 0 v refl)) tt)
+      (parameters_fit vs (suc x) (λ k w at. low (suc k) w at))
+
+  parameter_low : (k : ℕ) (v : Variable) → slice_get c.parameters k ≡ Some v → size_of_kind v.kind < 2 ^ 63
+  parameter_low k v at =
+      subst (λ w. size_of_kind w.kind < 2 ^ 63) (first_at c.parameters c.variables k v at) (function.sizes k)
 
   pub prologue_fits : AreFit (prologue e c)
   prologue_fits =
       fit_append (zero_variables c) _ (zeros_fit (parameters_end c + 1) (total variable_words c.variables))
       (fit_if (has_objects (objects_of_body c)) (enter_body e c) []
-      (fit_append (enter_code operators whole.map whole.code c (objects_of_body c) c.line) (store_parameters Lists c 0 c.parameters)
+      (fit_append (enter_code operators whole.map whole.code c (objects_of_body c) c.line)
+      (store_parameters Lists whole.code c 0 c.parameters)
       (enter_fits whole.map places whole.code c (objects_of_body c) c.line function.line function.body)
-      (parameters_fit c.parameters 0)) tt)
+      (parameters_fit c.parameters 0 parameter_low)) tt)
 
 -- whatever lists stand inline
 pub block_fit : (whole : Expansion) (u : ℕ) (c : CodeFunction) (read write : EntryCode) (i : Instruction)

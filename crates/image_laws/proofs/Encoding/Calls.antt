@@ -26,17 +26,17 @@ use Rattle.metadata_plan.specs.Blocks.{call_tests}
 use Rattle.metadata_plan.specs.OperatorLists.Operators.{operators}
 use Rattle.metadata_relation.specs.FunctionTypes.{first_of_type}
 use Rattle.metadata_relation.specs.Registers.{passed_as, temporary_register, moved_register, first_free, home_entry}
-use Rattle.metadata_relation.specs.Registers.{top_register, parameters_end, area_words, result_words}
+use Rattle.metadata_relation.specs.Registers.{top_register, parameters_end, result_words}
 use Rattle.metadata_relation.specs.Blocks.{number_code, number_operand, space_test, object_tests, objects_of_body}
-use Rattle.metadata_relation.specs.Blocks.{result_of}
-use Rattle.metadata_relation.specs.Blocks.{result_entry, pack, call_code, call_of, callee_tests, room_tests}
+use Rattle.metadata_relation.specs.Blocks.{result_of, await_result, result_code}
+use Rattle.metadata_relation.specs.Blocks.{pack, call_code, call_of, callee_tests, room_tests}
 use Rattle.metadata_relation.specs.Blocks.{units_tests}
 use Rattle.metadata_relation.specs.Blocks.{unknown_object_tests, through_code, through_of, place_home, place_homes}
 use Rattle.metadata_relation.specs.Blocks.{enter_code}
 use Rattle.metadata_relation.specs.Blocks.{write_top, status_code, enter_statuses}
-use Rattle.image_laws.specs.Encoding.Fitting.{AreFit, HasShortPlaces}
+use Rattle.image_laws.specs.Encoding.Fitting.{AreFit, HasShortPlaces, HasAreaWords, HasResultWords}
 use Rattle.image_laws.proofs.Encoding.Parts.{fit_append, fit_if, short, wide_fit, constant_fit, number_fit, operand_fit}
-use Rattle.image_laws.proofs.Encoding.Parts.{untagged_fit, pack_fit, status_fit}
+use Rattle.image_laws.proofs.Encoding.Parts.{untagged_fit, pack_fit, status_fit, hold_fit, await_fit}
 
 module _ (m : MapSizes) (places : HasShortPlaces m) where
   -- ---- tests
@@ -79,29 +79,37 @@ module _ (m : MapSizes) (places : HasShortPlaces m) where
 
   -- ---- calls
 
-  entry_fits : (kind : Kind) (b : Bool) (d : ℕ) → AreFit (result_entry kind b d)
-  entry_fits (OfScalar Pointer) b d = tt
-  entry_fits (OfScalar (Integer t)) b d = untagged_fit b d
-  entry_fits Void b d = untagged_fit b d
-  entry_fits (Structure n) b d = untagged_fit b d
-  entry_fits (Array n) b d = untagged_fit b d
+  await_fits : (t : Tac) (c : CodeFunction) (kind : Kind) (d : ℕ) → HasAreaWords t c kind d
+      → AreFit (await_result operators m t c kind d)
+  await_fits t c Void d words = tt
+  await_fits t c (OfScalar k) d words = tt
+  await_fits t c (Structure size) d words = await_fit m places t c size d (first_free c) words.0 words.1
+  await_fits t c (Array n) d words = tt
+
+  result_fits : (t : Tac) (c : CodeFunction) (kind : Kind) (b : Bool) (d : ℕ) → AreFit (result_code t c kind b d)
+  result_fits t c (OfScalar Pointer) b d = tt
+  result_fits t c (OfScalar (Integer ty)) b d = untagged_fit b (temporary_register c d)
+  result_fits t c Void b d = untagged_fit b (temporary_register c d)
+  result_fits t c (Structure n) b d = (tt, hold_fit b (temporary_register c d) (first_free c) (first_free c + 1))
+  result_fits t c (Array n) b d = untagged_fit b (temporary_register c d)
 
   called_fits : (t : Tac) (c callee : CodeFunction) (f line d : ℕ) (b : Bool) → line < 2 ^ 32
-      → AreFit (call_code m t c callee f line d b)
-  called_fits t c callee f line d b low =
+      → HasAreaWords t c (result_of t callee) d → AreFit (call_code operators m t c callee f line d b)
+  called_fits t c callee f line d b low words =
       let s = first_free c in
       fit_append (call_tests m callee.room line s) _ (tests_fit callee.room line s low)
       (fit_append (object_tests m (objects_of_body callee) line s) _ (objects_fit (objects_of_body callee) line s low)
+      (fit_append (await_result operators m t c (result_of t callee) d) _ (await_fits t c (result_of t callee) d words)
       (fit_append (pack c (map (λ v. passed_as v.kind) callee.parameters) (moved_register c (5 * d)) d) _
       (pack_fit c (map (λ v. passed_as v.kind) callee.parameters) (moved_register c (5 * d)) d)
-      (tt, entry_fits (result_of t callee) b (temporary_register c d))))
+      (tt, result_fits t c (result_of t callee) b d))))
 
   pub call_fits : (t : Tac) (c : CodeFunction) (callee : Option CodeFunction) (f line d n : ℕ) (b : Bool)
-      → line < 2 ^ 32 → AreFit (call_of m t c callee f line d n b)
-  call_fits t c None f line d n b low = ((low, omega arith), tt)
-  call_fits t c (Some callee) f line d n b low =
-      fit_if (length callee.parameters == n) (call_code m t c callee f line d b) _ (called_fits t c callee f line d b low)
-      ((low, omega arith), tt)
+      → line < 2 ^ 32 → HasResultWords t c callee d → AreFit (call_of operators m t c callee f line d n b)
+  call_fits t c None f line d n b low words = ((low, omega arith), tt)
+  call_fits t c (Some callee) f line d n b low words =
+      fit_if (length callee.parameters == n) (call_code operators m t c callee f line d b) _
+      (called_fits t c callee f line d b low words) ((low, omega arith), tt)
 
   -- ---- calls through pointers
 
@@ -152,28 +160,31 @@ module _ (m : MapSizes) (places : HasShortPlaces m) where
       (short 12 (omega arith), (inl (omega arith), (short 0 (omega arith), units_fit line s low)))
 
   reached_fits : (t : Tac) (c one : CodeFunction) (kind line d : ℕ) (b : Bool) → kind ≤ 2 ^ 12 → line < 2 ^ 32
-      → AreFit (through_code m t c one kind line d b)
-  reached_fits t c one kind line d b few low =
+      → HasAreaWords t c (result_of t one) d → AreFit (through_code operators m t c one kind line d b)
+  reached_fits t c one kind line d b few low words =
       let s = first_free c in
       let r = temporary_register c d in
       let q = moved_register c (5 * (d + 1)) in
       let takes = map (λ v. passed_as v.kind) one.parameters in
       let key = (held_from r).tag.key in
-      let last = flat.CallAddress r q (parameters_end one + area_words (result_of t one)) r (result_words (result_of t one))
-      ∷ result_entry (result_of t one) b r in
+      let await = await_result operators m t c (result_of t one) d in
+      let last = flat.CallAddress r q (parameters_end one) r (result_words (result_of t one))
+      ∷ result_code t c (result_of t one) b d in
       let packed = pack c takes q (d + 1) ++ last in
-      let objects = unknown_object_tests m key line s ++ packed in
+      let objects = unknown_object_tests m key line s ++ (await ++ packed) in
       fit_append (callee_tests kind line r s) (room_tests m key line s ++ objects) (callee_fit kind line r s few low)
       (fit_append (room_tests m key line s) objects (room_fit key line s low)
-      (fit_append (unknown_object_tests m key line s) packed (unknown_fit key line s low)
-      (fit_append (pack c takes q (d + 1)) last (pack_fit c takes q (d + 1)) (tt, entry_fits (result_of t one) b r))))
+      (fit_append (unknown_object_tests m key line s) (await ++ packed) (unknown_fit key line s low)
+      (fit_append await packed (await_fits t c (result_of t one) d words)
+      (fit_append (pack c takes q (d + 1)) last (pack_fit c takes q (d + 1)) (tt, result_fits t c (result_of t one) b d)))))
 
   pub through_fits : (t : Tac) (c : CodeFunction) (one : Option CodeFunction) (kind line d n : ℕ) (b : Bool)
-      → kind ≤ 2 ^ 12 → line < 2 ^ 32 → AreFit (through_of m t c one kind line d n b)
-  through_fits t c None kind line d n b few low = ((low, omega arith), tt)
-  through_fits t c (Some one) kind line d n b few low =
-      fit_if (length one.parameters == n) (through_code m t c one kind line d b) _ (reached_fits t c one kind line d b few low)
-      ((low, omega arith), tt)
+      → kind ≤ 2 ^ 12 → line < 2 ^ 32 → HasResultWords t c one d
+      → AreFit (through_of operators m t c one kind line d n b)
+  through_fits t c None kind line d n b few low words = ((low, omega arith), tt)
+  through_fits t c (Some one) kind line d n b few low words =
+      fit_if (length one.parameters == n) (through_code operators m t c one kind line d b) _
+      (reached_fits t c one kind line d b few low words) ((low, omega arith), tt)
 
   -- ---- blocks that are entered
 

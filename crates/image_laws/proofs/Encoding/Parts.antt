@@ -39,7 +39,8 @@ use Rattle.metadata_relation.specs.Blocks.{untagged, move_value, move_entry_if, 
 use Rattle.metadata_relation.specs.Blocks.{number_operand}
 use Rattle.metadata_relation.specs.Blocks.{is_short, right_code, right_register, new_integer, new_address, write_top}
 use Rattle.metadata_relation.specs.Blocks.{status_tests, status_code, pack, unpack, part_address, store_bytes}
-use Rattle.metadata_relation.specs.Structures.{area_code, begin_area_code, bound_code, copy_code, hold_area}
+use Rattle.metadata_relation.specs.Structures.{area_code, await_code, begin_area_code, bound_code, callee_part_code}
+use Rattle.metadata_relation.specs.Structures.{copy_code, hold_area, store_structure_code}
 use Rattle.metadata_relation.specs.Structures.{move_area_place, part_call_code, put_area_place, put_code}
 use Rattle.metadata_relation.specs.Structures.{take_part_code, take_place_code, take_structure_code, zero_structure_code}
 use Rattle.machine_laws.specs.Blocks.Blocks.{IsShort, RightIsShort}
@@ -231,6 +232,10 @@ part_call_fit f size a s low =
     fit_append (constant_code (s + 1) size) _ (constant_fit (s + 1) size low)
     (tt, (tt, (tt, (short 0 (omega arith), (short 0 (omega arith), (tt, tt))))))
 
+pub store_structure_fit : (number : ℕ → ℕ) (size home a s : ℕ) → size < 2 ^ 64
+    → AreFit (store_structure_code operators number size home a s)
+store_structure_fit number size home a s low = (tt, part_call_fit (number put_area_place) size a s low)
+
 place_fit : (number : ℕ → ℕ) (size a s : ℕ) → size < 2 ^ 64 → AreFit (take_place_code operators number size a s)
 place_fit number size a s low =
     (tt, fit_append (constant_code (s + 2) size) _ (constant_fit (s + 2) size low) (tt, tt))
@@ -244,7 +249,7 @@ put_fit number true a size s low = (
       (part_call_fit (number put_area_place) size a s low) (tt, copy_fit number a size s low),
 )
 
-hold_fit : (b : Bool) (d a e : ℕ) → AreFit (hold_area b d a e)
+pub hold_fit : (b : Bool) (d a e : ℕ) → AreFit (hold_area b d a e)
 hold_fit false d a e = (tt, tt)
 hold_fit true d a e = (tt, (tt, (tt, (short 0 (omega arith), (short 0 (omega arith), tt)))))
 
@@ -279,6 +284,32 @@ module _ (m : MapSizes) (places : HasShortPlaces m) (t : Tac) (c : CodeFunction)
           fit_append place _ (place_fit number size a (s + 2) (omega (arith, low))) (hold_fit b d s (s + 1)),
         ),
       )
+
+  -- ---- results
+
+  callee_part_fit : (size r : ℕ) → size < 2 ^ 63 → AreFit (callee_part_code operators m size r)
+  callee_part_fit size r low =
+      let values = places.values in
+      let begin = region_start m StructureValues in
+      let bound = whole_words size in (
+        tt,
+        fit_append (constant_code (r + 1) begin) _ (constant_fit (r + 1) begin (omega (arith, values))) (
+          tt,
+          (
+            tt,
+            fit_append (bound_code operators size r (r + 2)) _
+                (fit_append (constant_code (r + 2) bound) _ (constant_fit (r + 2) bound (omega (arith, low))) (tt, tt))
+                (short 0 (omega arith), (short 0 (omega arith), tt)),
+          ),
+        ),
+      )
+
+  pub await_fit : (size i s : ℕ) → size < 2 ^ 63 → 5 * structures_below t c.code i < 2 ^ 63
+      → AreFit (await_code operators m t c size i s)
+  await_fit size i s low few =
+      fit_append (begin_area_code operators m t c size i s) _ (begin_fit size i s low few)
+      (fit_append (constant_code (s + 3) size) _ (constant_fit (s + 3) size (omega (arith, low)))
+      (callee_part_fit size (s + 4) low))
 
 -- ---- blocks left
 

@@ -20,7 +20,7 @@ use Rattle.machine_laws.specs.Following.Code.{IsEncodable}
 use Rattle.machine_laws.specs.Following.Start.{IsStartable}
 use Rattle.runtime_functions.specs.Library.{register_count}
 use Rattle.metadata_relation.specs.InlineLists.{inline_lists}
-use Rattle.metadata_relation.specs.Registers.{passed_as, parameter_words, total, parameters_end, area_words}
+use Rattle.metadata_relation.specs.Registers.{passed_as, parameter_words, total, parameters_end}
 use Rattle.metadata_relation.specs.Registers.{result_words}
 use Rattle.metadata_relation.specs.Blocks.{Expansion, block, prologue, result_of, start_code, main_tests, before_main}
 use Rattle.metadata_relation.specs.Blocks.{entry_code, objects_of_body}
@@ -51,12 +51,6 @@ total_few : (vs : List Variable) → total parameter_words vs ≤ 5 * length vs
 total_few [] = omega arith
 total_few (v ∷ vs) = let one = passed_few v in let rest = total_few vs in omega (arith, one, rest)
 
-area_few : (kind : Kind) → area_words kind ≤ 1
-area_few Void = omega arith
-area_few (OfScalar k) = omega arith
-area_few (Structure n) = omega arith
-area_few (Array n) = omega arith
-
 result_few : (kind : Kind) → result_words kind ≤ 5
 result_few Void = omega arith
 result_few (OfScalar (Integer t)) = omega arith
@@ -85,13 +79,12 @@ module _ (e : Expansion) (homes : CodeFunction → List ℕ) (runtime : List Fla
         let f = code.functions u c at in
         let count = f.parameters in
         let few = total_few c.parameters in
-        let area = area_few (result_of e.code c) in
         let results = result_few (result_of e.code c) in
         record {
           body = laid_body_fit (block e u c) (prologue e c) c (prologue_fit e c read write entries places code f same)
               (λ n i there. block_fit e u c read write i entries places code f same (f.words n i there));
           room = f.room;
-          parameters = omega (arith, few, count, area);
+          parameters = omega (arith, few, count);
           results = omega (arith, results);
         }
 

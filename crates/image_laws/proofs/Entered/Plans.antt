@@ -5,8 +5,6 @@ use Rattle.std.proofs.Common.{◌∙◌, arith}
 use Rattle.std.specs.Prelude.{slice_get}
 use Rattle.std.proofs.lemmas.Bool.{eqb-true, and_parts, false≢true}
 use Rattle.addr_map.specs.Places.{MapSizes}
-use Rattle.c_tree.specs.declared.expression.Kind.{Kind}
-use Rattle.c_tree.specs.declared.expression.Kind.TheVariants.{Void, Scalar as OfScalar, Structure, Array}
 use Rattle.c_tree.specs.declared.program.Variable.{Variable}
 use Rattle.c_tree.specs.Programs.{Program}
 use Rattle.c_tree.specs.ValidProgram.{is_valid_program}
@@ -21,13 +19,11 @@ use Rattle.flat_code.specs.Routines.Metadata.{View}
 use Rattle.shadow_space.specs.Form.{EntryCode}
 use Rattle.metadata_relation.specs.Expanded.{IsExpanded}
 use Rattle.metadata_relation.specs.Homes.{HasRoom, homes, register_count}
-use Rattle.metadata_relation.specs.Blocks.{Expansion, objects_of_body, result_of}
+use Rattle.metadata_relation.specs.Blocks.{Expansion, result_of}
 use Rattle.metadata_relation.specs.Laid.{function_of, program_of, layout_of}
-use Rattle.metadata_relation.specs.Registers.{total, parameter_words, parameters_end, area_words, result_words}
+use Rattle.metadata_relation.specs.Registers.{is_no_aggregate, total, parameter_words, parameters_end, result_words}
 use Rattle.metadata_relation.specs.Stages.{Compiled}
-use Rattle.metadata_relation.specs.Steps.{AreAllCovered, is_no_aggregate, is_scalar_call, is_scalar_main}
-use Rattle.metadata_relation.specs.Steps.{can_enter_body}
-use Rattle.metadata_relation.specs.Steps.{are_scalars}
+use Rattle.metadata_relation.specs.Steps.{AreAllCovered, is_covered_call, is_covered_main}
 use Rattle.reg_plan.specs.Planned.{ArePlannable}
 use Rattle.image_laws.specs.Images.Images.{IsChecked}
 use Rattle.image_laws.specs.Images.Expansions.{Laid, IsLaidExpansion, HasPlannableParts, compiled_of}
@@ -77,26 +73,17 @@ nothing_taken : (vs : List Variable) → length vs ≡ 0 → total parameter_wor
 nothing_taken [] none = refl
 nothing_taken (v ∷ vs) none = absurd (omega (arith, none))
 
-no_area : (kind : Kind) → is_no_aggregate kind ≡ true → area_words kind ≡ 0
-no_area Void e = refl
-no_area (OfScalar k) e = refl
-no_area (Structure n) e = absurd (false≢true e)
-no_area (Array n) e = refl
-
 record IsMain (t : Tac) (c : CodeFunction) : Type 0 where
   there : code_in t t.main ≡ Some c
-  takes : parameters_end c + area_words (result_of t c) ≡ 0
+  takes : parameters_end c ≡ 0
 
-main_of : (t : Tac) (o : Option CodeFunction) → code_in t t.main ≡ o → is_scalar_main t o ≡ true
+main_of : (t : Tac) (o : Option CodeFunction) → code_in t t.main ≡ o → is_covered_main t o ≡ true
     → (c : CodeFunction) × IsMain t c
 main_of t None at e = absurd (false≢true e)
 main_of t (Some c) at e =
-    let parts = and_parts (is_scalar_call t (Some c)) (length c.parameters == 0) e in
+    let parts = and_parts (is_covered_call t (Some c) && is_no_aggregate (result_of t c)) (length c.parameters == 0) e in
     let none = nothing_taken c.parameters (eqb-true (length c.parameters) 0 parts.1) in
-    let scalar = and_parts (can_enter_body (objects_of_body c) && are_scalars c.parameters) (is_no_aggregate (result_of t c))
-    parts.0 in
-    let area = no_area (result_of t c) scalar.1 in
-    (c, record { there = at; takes = omega (arith, none, area) })
+    (c, record { there = at; takes = none })
 
 -- ---- the program
 

@@ -1,9 +1,10 @@
 -- Which instructions the machine has, by their numbers, and what is asked of the code so that its expansion is of such.
-use Rattle.std.specs.Prelude.{◌≡◌, ℕ, ◌+◌, ◌-◌, ◌*◌, ◌^◌, ◌<◌, ◌≤◌, true, List, [], ◌∷◌, length, Some}
+use Rattle.std.specs.Prelude.{◌≡◌, ℕ, ◌+◌, ◌-◌, ◌*◌, ◌^◌, ◌<◌, ◌≤◌, true, List, [], ◌∷◌, length, Option, Some, None}
 use Rattle.std.specs.Prelude.{slice_get}
 use Rattle.sb_base.specs.Endings.{code_of}
 use Rattle.addr_map.specs.declared.region.Region.TheVariants.{Stack, Locks, FreeLocks, Cells, StructureValues}
 use Rattle.addr_map.specs.Places.{MapSizes, region_start, region_end, function_address}
+use Rattle.c_tree.specs.declared.expression.Kind.{Kind}
 use Rattle.c_tree.specs.declared.expression.Kind.TheVariants.{Structure}
 use Rattle.c_tree.specs.declared.expression.Update.{Update}
 use Rattle.c_tree.specs.declared.expression.Update.TheVariants.{Arithmetic, Forward, Back}
@@ -14,6 +15,7 @@ use Rattle.source_meaning.specs.Printing.{pieces_or_none}
 use Rattle.tac_ir.specs.declared.instruction.Instruction.{Instruction}
 use Rattle.tac_ir.specs.declared.instruction.Instruction.TheVariants as tac
 use Rattle.tac_ir.specs.declared.function.CodeFunction.{CodeFunction}
+use Rattle.tac_ir.specs.declared.function.Tac.{Tac}
 use Rattle.tac_ir.specs.Meaning.{function_in, objects_in, text_in}
 use Rattle.tac_ir.specs.Structures.{structures_below}
 use Rattle.flat_code.specs.declared.instruction.FlatInstruction.{FlatInstruction}
@@ -25,7 +27,8 @@ use Rattle.lib_wrappers.specs.AllocatingRoutines.Entering.{block_bytes}
 use Rattle.machine_laws.specs.Blocks.Blocks.{IsShort, RightIsShort}
 use Rattle.machine_laws.specs.Blocks.Tails.{line_of}
 use Rattle.metadata_plan.specs.Registers.{all_variables}
-use Rattle.metadata_relation.specs.Blocks.{Expansion, static_object, objects_of_body}
+use Rattle.metadata_relation.specs.FunctionTypes.{first_of_type}
+use Rattle.metadata_relation.specs.Blocks.{Expansion, static_object, objects_of_body, result_of}
 use Rattle.metadata_relation.specs.Steps.{have_bytes}
 
 -- ---- instructions
@@ -76,22 +79,29 @@ abbrev pub AreBytes : List ℕ → Type 0
 AreBytes [] = Unit {0}
 AreBytes (b ∷ bs) = (b < 256) × AreBytes bs
 
+-- the bytes of a structure that comes to a temporary, and those charged for the areas before its own, have 63 bits
+abbrev pub HasAreaWords : Tac → CodeFunction → Kind → (temporary : ℕ) → Type 0
+HasAreaWords t c (Structure size) d = (size < 2 ^ 63) × (5 * structures_below t c.code d < 2 ^ 63)
+HasAreaWords t c kind d = Unit {0}
+
+-- so where it is the result of a function
+abbrev pub HasResultWords : Tac → CodeFunction → (callee : Option CodeFunction) → (temporary : ℕ) → Type 0
+HasResultWords t c None d = Unit {0}
+HasResultWords t c (Some callee) d = HasAreaWords t c (result_of t callee) d
+
 -- Numbers are words, lines have 32 bits, and what stands in texts and formats is bytes. The objects of a block take a number
--- of bytes that is a word. The bytes of a structure that is made, and those charged for the areas before its own, have
--- 63 bits.
+-- of bytes that is a word.
 abbrev pub HasWords : Expansion → CodeFunction → Instruction → Type 0
 HasWords e c (tac.Constant d w m) = w < 2 ^ 64
 HasWords e c (tac.FunctionPointer d f m) = (function_address f < 2 ^ 64) × (2 ^ 63 + e.types f < 2 ^ 64)
 HasWords e c (tac.UpdatePlain w k f line d x right m) = (moved_by w < 2 ^ 64) × (line < 2 ^ 32)
-HasWords e c (tac.ZeroOf (Structure size) d m) =
-    (size < 2 ^ 63) × (5 * structures_below e.code c.code d < 2 ^ 63)
+HasWords e c (tac.ZeroOf kind d m) = HasAreaWords e.code c kind d
 HasWords e c (tac.Binary op ty line d a b m) = line < 2 ^ 32
 HasWords e c (tac.Offset form size d a b m) = size < 2 ^ 64
 HasWords e c (tac.Difference size d a b m) = size < 2 ^ 64
 HasWords e c (tac.Narrow offset size d a m) = (offset < 2 ^ 64) × (size < 2 ^ 64)
 HasWords e c (tac.Member offset size d a m) = (offset < 2 ^ 64) × (size < 2 ^ 64)
-HasWords e c (tac.Take (Structure size) line d a m) =
-    (size < 2 ^ 63) × (5 * structures_below e.code c.code d < 2 ^ 63)
+HasWords e c (tac.Take kind line d a m) = HasAreaWords e.code c kind d
 HasWords e c (tac.Write (Structure size) mode line key d a b m) = size < 2 ^ 64
 HasWords e c (tac.Update w k f mode line at key d a right m) = (moved_by w < 2 ^ 64) × (at < 2 ^ 32)
 HasWords e c (tac.Judge test size line key a m) = (size < 2 ^ 64) × (line < 2 ^ 32)
@@ -102,8 +112,10 @@ HasWords e c (tac.Case a w x y) = w < 2 ^ 64
 HasWords e c (tac.Library r line d n m) = line < 2 ^ 32
 HasWords e c (tac.Print x line d n m) =
     (line < 2 ^ 32) × (have_bytes (pieces_or_none (pieces (text_in e.code x))) ≡ true)
-HasWords e c (tac.Call f line d n m) = line < 2 ^ 32
-HasWords e c (tac.CallThrough type_number line d n m) = line < 2 ^ 32
+HasWords e c (tac.Call f line d n m) = (line < 2 ^ 32) × HasResultWords e.code c (function_in e.code f) d
+HasWords e c (tac.CallThrough type_number line d n m) =
+    (line < 2 ^ 32)
+    × HasResultWords e.code c (slice_get e.code.functions (first_of_type e.code.functions type_number)) d
 HasWords e c (tac.EnterBlock b line m) = (line < 2 ^ 32) × (block_bytes (objects_in (Some c) b) < 2 ^ 64)
 HasWords e c _ = Unit {0}
 

@@ -39,7 +39,7 @@ use Rattle.metadata_relation.specs.Homes.{register_count}
 use Rattle.metadata_relation.specs.Laid.{function_of}
 use Rattle.metadata_relation.specs.Registers.{temporary_register, variable_register, home_entry, lock_register}
 use Rattle.metadata_relation.specs.Registers.{top_register}
-use Rattle.metadata_relation.specs.Registers.{first_free, parameters_end, area_words, result_words}
+use Rattle.metadata_relation.specs.Registers.{first_free, parameters_end, result_words}
 use Rattle.metadata_relation.specs.Registers.{total, variable_words}
 use Rattle.metadata_relation.specs.Blocks.{Expansion, objects_of_body, result_of, runtime_number}
 use Rattle.c_lower.specs.Liveness.Liveness.{IsLive}
@@ -114,11 +114,24 @@ abbrev pub numbers_from : (first count : ℕ) → List ℕ
 numbers_from x zero = []
 numbers_from x (suc n) = x ∷ numbers_from (x + 1) n
 
--- the registers of the plain variables behind the parameters, and of the objects of the body
+-- a parameter that is a structure is put to its home by a function, which gives a status that nothing reads
+abbrev pub stored_register : CodeFunction → Kind → List ℕ
+stored_register c (Structure size) = (first_free c + 7) ∷ []
+stored_register c kind = []
+
+abbrev pub stored_registers : CodeFunction → (parameters : List Variable) → List ℕ
+stored_registers c [] = []
+stored_registers c (v ∷ vs) = (if v.is_object then stored_register c v.kind else []) ++ stored_registers c vs
+
+-- the registers of the objects of the body, among which parameters are stored
+abbrev pub body_made : CodeFunction → List ℕ
+body_made c =
+    if has_objects (objects_of_body c) then entered_registers c (objects_of_body c) ++ stored_registers c c.parameters
+    else []
+
+-- the registers of the plain variables behind the parameters, and those
 abbrev pub begin_made : CodeFunction → List ℕ
-begin_made c =
-    numbers_from (parameters_end c + 1) (total variable_words c.variables)
-    ++ (if has_objects (objects_of_body c) then entered_registers c (objects_of_body c) else [])
+begin_made c = numbers_from (parameters_end c + 1) (total variable_words c.variables) ++ body_made c
 
 -- ---- what blocks read of homes
 
@@ -153,10 +166,6 @@ abbrev pub is_plain : Option Scalar → Bool
 is_plain None = false
 is_plain (Some k) = true
 
-abbrev pub is_no_structure : Kind → Bool
-is_no_structure (Structure n) = false
-is_no_structure k = true
-
 -- a plain variable of a type is updated as one of a scalar
 abbrev pub is_updated_as : Option Scalar → Scalar → Bool
 is_updated_as None k = false
@@ -164,12 +173,8 @@ is_updated_as (Some Pointer) k = true
 is_updated_as (Some (Integer t)) (Integer k) = true
 is_updated_as (Some (Integer t)) Pointer = false
 
-abbrev pub gives_no_structure : Tac → Option CodeFunction → Bool
-gives_no_structure t None = true
-gives_no_structure t (Some callee) = is_no_structure (result_of t callee)
-
--- These name plain variables where they read one, update what the update is of, hand over as many arguments as are taken,
--- and call no function that gives a structure.
+-- These name plain variables where they read one, update what the update is of, and hand over as many arguments as are
+-- taken.
 abbrev pub assigns_alone : Tac → CodeFunction → Instruction → Bool
 assigns_alone t c (tac.GetPlain d x m) = is_plain (plain_type (all_variables c) x)
 assigns_alone t c (tac.UpdatePlain w k f line d x right m) =
@@ -177,9 +182,6 @@ assigns_alone t c (tac.UpdatePlain w k f line d x right m) =
 assigns_alone t c (tac.Update w k f mode line at key d a right m) = is_update_of w k
 assigns_alone t c (tac.Library r line d n m) = length (routine_signature r).parameters == n
 assigns_alone t c (tac.Print x line d n m) = nat_le (length (directives (pieces_or_none (pieces (text_in t x))))) n
-assigns_alone t c (tac.Call f line d n m) = gives_no_structure t (function_in t f)
-assigns_alone t c (tac.CallThrough type_number line d n m) =
-    gives_no_structure t (slice_get t.functions (first_of_type t.functions type_number))
 assigns_alone t c _ = true
 
 -- What coverage does not test of these: updates are of what they are of, and calls hand over what is taken.
@@ -239,7 +241,7 @@ pub record IsDefinite (code : Tac) (number : ℕ) (function : CodeFunction) : Ty
 -- The functions of the text take and give what those of the code do, and behind them stand those of the runtime.
 pub record HasCallees (program : FlatProgram) (code : Tac) : Type 0 where
   pub functions : (f : ℕ) (callee : CodeFunction) → function_in code f ≡ Some callee
-      → (parameters_of (flat_function program f) ≡ parameters_end callee + area_words (result_of code callee))
+      → (parameters_of (flat_function program f) ≡ parameters_end callee)
       × (results_of (flat_function program f) ≡ result_words (result_of code callee))
   pub runtime : (k : ℕ) (callee : RuntimeFunction) → slice_get runtime_list k ≡ Some callee
       → (parameters_of (flat_function program (runtime_number code k)) ≡ argument_count callee)

@@ -25,14 +25,15 @@ use Rattle.shadow_space.specs.Form.{EntryCode}
 use Rattle.lib_wrappers.specs.declared.accesses.held.HeldScalar.TheVariants.{Pointer as HeldPointer}
 use Rattle.lib_wrappers.specs.AccessRoutines.Accessing.{load_code, store_code}
 use Rattle.lib_wrappers.specs.AllocatingRoutines.Allocating.{keys_code, key_test}
+use Rattle.metadata_plan.specs.OperatorLists.Operators.{operators}
 use Rattle.runtime_functions.specs.Library.{Passed, held_from}
-use Rattle.metadata_relation.specs.Registers.{area_words, first_free, moved_register, parameters_end, passed_as}
+use Rattle.metadata_relation.specs.Registers.{first_free, moved_register, parameters_end, passed_as}
 use Rattle.metadata_relation.specs.Registers.{result_words, temporary_register}
 use Rattle.metadata_relation.specs.InlineCode.{InlineCode}
 use Rattle.metadata_relation.specs.InlineLists.{inline_lists}
 use Rattle.metadata_relation.specs.Blocks.{callee_tests, given_register, move_entry_if, new_address, room_tests}
 use Rattle.metadata_relation.specs.Blocks.{store_parameter, store_parameters, units_tests, unknown_object_tests}
-use Rattle.metadata_relation.specs.Blocks.{pack, result_entry, result_of, through_code, update_code}
+use Rattle.metadata_relation.specs.Blocks.{await_result, pack, result_code, result_of, through_code, update_code}
 use Rattle.instruction_selection.specs.declared.updates.Change.{Change}
 use Rattle.instruction_selection.specs.Calls.{units_end}
 use Rattle.instruction_selection.proofs.Lists.{three_behind, four_behind, five_behind}
@@ -84,49 +85,52 @@ pointer_update_list read write m c w f line b d p right s change into from befor
     ++ (a ++ (new_address lists c w (s + 5) s right (s + 6) ++ (x ++ (y ++ move_entry_if b (held_from d).tag z))))) also)))
 
 -- parameters from one on, where that one has got its argument
-pub next_stored : (i : InlineCode) (c : CodeFunction) (ps : List Variable) (x : ℕ) (v : Variable)
+pub next_stored : (i : InlineCode) (t : Tac) (c : CodeFunction) (ps : List Variable) (x : ℕ) (v : Variable)
     (now : List FlatInstruction) {after : List FlatInstruction} → x < length ps → slice_get ps x ≡ Some v
-    → after ≡ now ++ (if v.is_object then store_parameter i c v.kind x else [])
-    → after ++ store_parameters i c (x + 1) (drop (x + 1) ps) ≡ now ++ store_parameters i c x (drop x ps)
-next_stored i c ps x v now low at put =
+    → after ≡ now ++ (if v.is_object then store_parameter i t c v.kind x else [])
+    → after ++ store_parameters i t c (x + 1) (drop (x + 1) ps) ≡ now ++ store_parameters i t c x (drop x ps)
+next_stored i t c ps x v now low at put =
     let next : x + 1 ≡ suc x = omega arith in
-    let own = if v.is_object then store_parameter i c v.kind x else [] in
-    ap (λ is. is ++ store_parameters i c (x + 1) (drop (x + 1) ps)) put
-    ∙ (ap (λ k. (now ++ own) ++ store_parameters i c k (drop (x + 1) ps)) next
-    ∙ (append_assoc now own (store_parameters i c (suc x) (drop (x + 1) ps))
-    ∙ ap (λ ws. now ++ store_parameters i c x ws)
+    let own = if v.is_object then store_parameter i t c v.kind x else [] in
+    ap (λ is. is ++ store_parameters i t c (x + 1) (drop (x + 1) ps)) put
+    ∙ (ap (λ k. (now ++ own) ++ store_parameters i t c k (drop (x + 1) ps)) next
+    ∙ (append_assoc now own (store_parameters i t c (suc x) (drop (x + 1) ps))
+    ∙ ap (λ ws. now ++ store_parameters i t c x ws)
     (sym (drop_more ps x v low ∙ ap (λ z. z ∷ drop (x + 1) ps) (get_or_from_slice_get ps x v v at)))))
 
 pub through_one_list : (m : MapSizes) (t : Tac) (c one : CodeFunction) (kind line d : ℕ) (b : Bool)
     (r q count results : ℕ) (given : Kind) (ps : List Passed) (before : List FlatInstruction)
-    {n k l o : List FlatInstruction} → r ≡ temporary_register c d → q ≡ moved_register c (5 * (d + 1))
+    {n a k l o : List FlatInstruction} → r ≡ temporary_register c d → q ≡ moved_register c (5 * (d + 1))
     → ps ≡ map (λ v. passed_as v.kind) one.parameters → given ≡ result_of t one
-    → count ≡ parameters_end one + area_words (result_of t one) → results ≡ result_words given
+    → count ≡ parameters_end one → results ≡ result_words given
     → n ≡ before ++ (callee_tests kind line r (first_free c)
     ++ (room_tests m (held_from r).tag.key line (first_free c)
     ++ unknown_object_tests m (held_from r).tag.key line (first_free c)))
-    → k ≡ n ++ pack c ps q (d + 1) → l ≡ k ++ (CallAddress r q count r results ∷ [])
-    → o ≡ l ++ result_entry given b r → o ≡ before ++ through_code m t c one kind line d b
-through_one_list m t c one kind line d b r q count results given ps before first moved handed gives counted many e f g h =
+    → a ≡ n ++ await_result operators m t c given d
+    → k ≡ a ++ pack c ps q (d + 1) → l ≡ k ++ (CallAddress r q count r results ∷ [])
+    → o ≡ l ++ result_code t c given b d → o ≡ before ++ through_code operators m t c one kind line d b
+through_one_list m t c one kind line d b r q count results given ps before first moved handed gives counted many
+    e f g h i =
     let s = first_free c in
     let x = callee_tests kind line r s in
     let y = room_tests m (held_from r).tag.key line s in
     let z = unknown_object_tests m (held_from r).tag.key line s in
     let rest : (p q : ℕ) → List Passed → (n u : ℕ) → Kind → List FlatInstruction =
-    λ p q vs n u v. pack c vs q (d + 1) ++ (CallAddress p q n p u ∷ result_entry v b p) in
-    four_behind before (x ++ (y ++ z)) (pack c ps q (d + 1)) (CallAddress r q count r results ∷ [])
-    (result_entry given b r) e f g h
+    λ p q vs n u v. await_result operators m t c v d
+    ++ (pack c vs q (d + 1) ++ (CallAddress p q n p u ∷ result_code t c v b d)) in
+    five_behind before (x ++ (y ++ z)) (await_result operators m t c given d) (pack c ps q (d + 1))
+    (CallAddress r q count r results ∷ []) (result_code t c given b d) e f g h i
     ∙ (ap (λ is. before ++ is) (append_assoc x (y ++ z) (rest r q ps count results given)
     ∙ ap (λ is. x ++ is) (append_assoc y z (rest r q ps count results given)))
     ∙ (ap (λ vs. before ++ (x ++ (y ++ (z ++ rest r q vs count results given)))) handed
     ∙ (ap (λ n. before ++ (x ++ (y ++ (z ++ rest r q (map (λ v. passed_as v.kind) one.parameters) n results given)))) counted
     ∙ (ap (λ n. before ++ (x ++ (y ++ (z ++ rest r q (map (λ v. passed_as v.kind) one.parameters)
-    (parameters_end one + area_words (result_of t one)) n given)))) many
+    (parameters_end one) n given)))) many
     ∙ (ap (λ v. before ++ (x ++ (y ++ (z ++ rest r q (map (λ v. passed_as v.kind) one.parameters)
-    (parameters_end one + area_words (result_of t one)) (result_words v) v)))) gives
+    (parameters_end one) (result_words v) v)))) gives
     ∙ (ap (λ n. before ++ (x ++ (y ++ (z ++ rest r n (map (λ v. passed_as v.kind) one.parameters)
-    (parameters_end one + area_words (result_of t one)) (result_words (result_of t one)) (result_of t one))))) moved
+    (parameters_end one) (result_words (result_of t one)) (result_of t one))))) moved
     ∙ ap (λ p. before ++ (callee_tests kind line p s ++ (room_tests m (held_from p).tag.key line s
     ++ (unknown_object_tests m (held_from p).tag.key line s ++ rest p (moved_register c (5 * (d + 1)))
-    (map (λ v. passed_as v.kind) one.parameters) (parameters_end one + area_words (result_of t one))
+    (map (λ v. passed_as v.kind) one.parameters) (parameters_end one)
     (result_words (result_of t one)) (result_of t one))))) first))))))

@@ -46,7 +46,7 @@ registers_at w r (v ∷ vs) (suc x) d e =
     registers_at w (r + w v) vs x d same in
     there ∙ omega arith
 
--- those of parameters come first, then one for the place of a result, and then all others
+-- those of parameters come first, then one that nothing uses, and then all others
 pub variables_at : (r s : ℕ) (ps vs : List Variable) (x d : ℕ) → s ≡ r + total parameter_words ps + 1
     → d ≡ s + total variable_words vs
     → get_or (registers_from parameter_words r ps ++ registers_from variable_words s vs) x d ≡ r + register_in ps vs x

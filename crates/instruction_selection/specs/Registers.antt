@@ -8,8 +8,9 @@ use Rattle.source_meaning.specs.Blocks.{has_objects}
 use Rattle.tac_ir.specs.declared.instruction.Instruction.{Instruction}
 use Rattle.tac_ir.specs.declared.instruction.Instruction.TheVariants as tac
 use Rattle.tac_ir.specs.declared.function.Tac.{Tac}
-use Rattle.tac_ir.specs.Meaning.{objects_in, text_in}
+use Rattle.tac_ir.specs.Meaning.{function_in, objects_in, text_in}
 use Rattle.tac_ir.specs.declared.function.CodeFunction.{CodeFunction}
+use Rattle.tac_ir.specs.Structures.{result_of, result_of_type}
 use Rattle.tac_ir.specs.Temporaries.{temporaries}
 use Rattle.metadata_plan.specs.Registers.{most_temporaries}
 use Rattle.metadata_relation.specs.Registers.{variable_register, variables_end, home_register, homes_end}
@@ -44,26 +45,28 @@ abbrev pub function_named : Instruction → ℕ
 function_named (tac.FunctionPointer d f m) = f
 function_named i = 0
 
--- the bytes of a structure that is made of zeros, or taken
+-- the bytes of a structure that is made of zeros, taken, or given by a call
 abbrev pub bytes_of_structure : Kind → ℕ
 bytes_of_structure (Structure n) = n
 bytes_of_structure kind = 0
 
-abbrev pub structure_taken : Instruction → ℕ
-structure_taken (tac.ZeroOf kind d m) = bytes_of_structure kind
-structure_taken (tac.Take kind line d a m) = bytes_of_structure kind
-structure_taken i = 0
+abbrev pub structure_taken : Tac → Instruction → ℕ
+structure_taken t (tac.ZeroOf kind d m) = bytes_of_structure kind
+structure_taken t (tac.Take kind line d a m) = bytes_of_structure kind
+structure_taken t (tac.Call f line d n m) = bytes_of_structure (result_of t.results (function_in t f))
+structure_taken t (tac.CallThrough type_number line d n m) = bytes_of_structure (result_of_type t.results type_number)
+structure_taken t i = 0
 
 -- a block that is left has objects
 abbrev pub leaves_objects : CodeFunction → Instruction → Bool
 leaves_objects c (tac.LeaveBlock b m) = has_objects (objects_in (Some c) b)
 leaves_objects c i = true
 
--- an instruction names temporaries of its function, and functions that have an address in the jump table, and takes
--- structures whose bytes have a number of 62 bits
+-- an instruction names temporaries of its function, and functions that have an address in the jump table, and puts
+-- structures of 2^62 bytes at most into temporaries
 pub record IsAmong (program : Tac) (function : CodeFunction) (instruction : Instruction) : Type 0 where
   pub temporaries : temporaries instruction ≤ most_temporaries function.code
   pub handed : last_handed program instruction ≤ most_temporaries function.code
   pub functions : function_named instruction ≤ 2 ^ 12
   pub left : leaves_objects function instruction ≡ true
-  pub taken : structure_taken instruction ≤ 2 ^ 62
+  pub taken : structure_taken program instruction ≤ 2 ^ 62

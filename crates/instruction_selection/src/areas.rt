@@ -8,6 +8,7 @@ ghost use Rattle.tac_ir.specs.Meaning.{function_in};
 ghost use Rattle.tac_ir.specs.Structures.{result_of as given_by, result_of_type, structure_put};
 ghost use Rattle.metadata_plan.specs.Registers.{most_temporaries};
 ghost use Rattle.metadata_relation.specs.Structures.{HasAreas};
+ghost use Rattle.instruction_selection.specs.Registers.{bytes_of_structure, structure_taken};
 ghost use Rattle.instruction_selection.specs.Areas.{put_by, sum_before, AreGreatest, AreSumsOf, HasTable};
 
 use crate::calls::result_of;
@@ -27,7 +28,8 @@ pub struct StructurePut {
 
 // The bytes of a structure; of other kinds 0.
 fn structure_size(kind: Kind) -> u64
-    ensures { rounded_up 16 result ≡ structure_bytes kind }
+    ensures units { rounded_up 16 result ≡ structure_bytes kind }
+    ensures bytes { result ≡ bytes_of_structure kind }
 {
     match kind {
         Kind::Structure(size) => size,
@@ -55,10 +57,11 @@ fn given_by_type(program: &Tac, type_number: usize) -> Kind
     }
 }
 
-// The structure that an instruction puts into a temporary.
+/// The structure that an instruction puts into a temporary.
 #[tactic(auto, using(crate::proofs::StructureAreas::same_put, crate::proofs::StructureAreas::nothing_put))]
-fn structure_put(program: &Tac, instruction: &Instruction) -> StructurePut
-    ensures { (i : ℕ) → structure_put program.now instruction.now i ≡ put_by result i }
+pub fn structure_put(program: &Tac, instruction: &Instruction) -> StructurePut
+    ensures put { (i : ℕ) → structure_put program.now instruction.now i ≡ put_by result i }
+    ensures bytes { result.size ≡ structure_taken program.now instruction.now }
 {
     match instruction {
         Instruction::ZeroOf { kind, to, .. } | Instruction::Take { kind, to, .. } => StructurePut {

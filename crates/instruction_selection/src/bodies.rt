@@ -19,6 +19,7 @@ use crate::blocks::{has_objects, put_enter, put_leave};
 use crate::calls::body_objects;
 use crate::context::FunctionContext;
 use crate::list::put;
+use crate::structures::put_store_structure;
 use c_tree::{Kind, Variable};
 use flat_code::FlatInstruction;
 use sb_base::{Ending, Line};
@@ -57,12 +58,12 @@ fn put_store_parameter<S: ShadowForm>(
     number: usize,
     parameter: Variable,
 ) -> Result<(), AllocError>
-    requires registers { HasRegisters context.now }
+    requires prepared { IsPrepared context.now }
     requires there { slice_get context.now.function.now.parameters number ≡ Some parameter }
     requires object { parameter.is_object ≡ true }
     ensures { OnOk result (code.new.items ≡ code.old.items
-        ++ store_parameter (inline_lists S.entry_read S.entry_write context.now.map.now) context.now.function.now
-        parameter.kind number) }
+        ++ store_parameter (inline_lists S.entry_read S.entry_write context.now.map.now) context.now.program.now
+        context.now.function.now parameter.kind number) }
 {
     match parameter.kind {
         Kind::Scalar(scalar) => {
@@ -70,7 +71,12 @@ fn put_store_parameter<S: ShadowForm>(
             let held = held_scalar(scalar, context.argument(number, parameter));
             put_store::<S>(code, context, home, held, context.free())
         }
-        Kind::Void | Kind::Structure(_) | Kind::Array(_) => {
+        Kind::Structure(size) => {
+            let home = context.parameter_home(number, parameter);
+            let from = context.argument(number, parameter);
+            put_store_structure(code, context, size, home, from, context.free())
+        }
+        Kind::Void | Kind::Array(_) => {
             put(code, FlatInstruction::End(Ending::Abort(Line::first())))
         }
     }
@@ -92,11 +98,11 @@ fn put_if_object<S: ShadowForm>(
     number: usize,
     parameter: Variable,
 ) -> Result<(), AllocError>
-    requires registers { HasRegisters context.now }
+    requires prepared { IsPrepared context.now }
     requires there { slice_get context.now.function.now.parameters number ≡ Some parameter }
     ensures { OnOk result (code.new.items ≡ code.old.items ++ (if parameter.is_object
-        then store_parameter (inline_lists S.entry_read S.entry_write context.now.map.now) context.now.function.now
-        parameter.kind number else [])) }
+        then store_parameter (inline_lists S.entry_read S.entry_write context.now.map.now) context.now.program.now
+        context.now.function.now parameter.kind number else [])) }
 {
     if parameter.is_object {
         put_store_parameter::<S>(code, context, number, parameter)
@@ -110,10 +116,10 @@ fn put_store_parameters<S: ShadowForm>(
     code: &mut Vec<FlatInstruction>,
     context: &FunctionContext,
 ) -> Result<(), AllocError>
-    requires { HasRegisters context.now }
+    requires { IsPrepared context.now }
     ensures { OnOk result (code.new.items ≡ code.old.items
-        ++ store_parameters (inline_lists S.entry_read S.entry_write context.now.map.now) context.now.function.now 0
-        context.now.function.now.parameters) }
+        ++ store_parameters (inline_lists S.entry_read S.entry_write context.now.map.now) context.now.program.now
+        context.now.function.now 0 context.now.function.now.parameters) }
 {
     let parameters = context.function.parameters.as_slice();
     for i in 0..parameters.len() {

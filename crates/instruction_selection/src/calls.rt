@@ -5,18 +5,21 @@ ghost use Rattle.std.specs.Prelude.{MatchOption, OnOk, IfOk};
 ghost use Rattle.runtime_functions.specs.Library.{held_from};
 ghost use Rattle.metadata_plan.specs.Blocks.{call_tests};
 ghost use Rattle.tac_ir.specs.Meaning.{function_in};
+ghost use Rattle.tac_ir.specs.Structures.{result_of as given_by, result_of_type};
+ghost use Rattle.metadata_plan.specs.OperatorLists.Operators.{operators};
 ghost use Rattle.metadata_plan.specs.Registers.{most_temporaries};
 ghost use Rattle.metadata_relation.specs.FunctionTypes.{first_of_type};
-ghost use Rattle.metadata_relation.specs.Registers.{area_words, first_free, parameter_words, parameters_end};
-ghost use Rattle.metadata_relation.specs.Registers.{result_words, total};
-ghost use Rattle.metadata_relation.specs.Blocks.{call_code, call_of, objects_of_body, result_entry, result_of};
-ghost use Rattle.metadata_relation.specs.Blocks.{callee_tests, object_tests, room_tests, through_code, through_of};
-ghost use Rattle.metadata_relation.specs.Blocks.{unknown_object_tests};
+ghost use Rattle.metadata_relation.specs.Registers.{first_free, result_words};
+ghost use Rattle.metadata_relation.specs.Blocks.{await_result, call_code, call_of, objects_of_body, result_code};
+ghost use Rattle.metadata_relation.specs.Blocks.{callee_tests, object_tests, result_of, room_tests, through_code};
+ghost use Rattle.metadata_relation.specs.Blocks.{through_of, unknown_object_tests};
 ghost use Rattle.instruction_selection.specs.Contexts.{CanBeCalled, IsPrepared};
+ghost use Rattle.instruction_selection.specs.Registers.{bytes_of_structure};
 
 use crate::call_tests::{
     put_call_tests, put_callee_tests, put_object_tests, put_room_tests, put_unknown_object_tests,
 };
+use crate::contents::{put_await, put_receive};
 use crate::context::FunctionContext;
 use crate::entries::{held_from, put_untagged};
 use crate::handing::{handed_to, put_pack};
@@ -49,25 +52,6 @@ pub fn result_of(program: &Tac, function: &CodeFunction) -> Kind
     }
 }
 
-// Puts the entry of a result that is handed over without one behind a list.
-#[tactic(auto, using(crate::proofs::Lists::nothing_behind))]
-fn put_result_entry(
-    code: &mut Vec<FlatInstruction>,
-    kind: Kind,
-    with_entry: bool,
-    register: u32,
-) -> Result<(), AllocError>
-    requires { register ≤ 2 ^ 31 }
-    ensures { OnOk result (code.new.items ≡ code.old.items ++ result_entry kind with_entry register) }
-{
-    match kind {
-        Kind::Scalar(Scalar::Pointer) => Ok(()),
-        Kind::Void | Kind::Scalar(Scalar::Integer(_)) | Kind::Structure(_) | Kind::Array(_) => {
-            put_untagged(code, with_entry, register)
-        }
-    }
-}
-
 /// A call.
 #[derive(Clone, Copy)]
 pub struct Call {
@@ -79,6 +63,52 @@ pub struct Call {
     pub count: usize,
     /// Whether the result has an entry.
     pub with_entry: bool,
+}
+
+// Puts what stands before a call for the sake of its result behind a list, where that is a structure.
+#[tactic(auto, using(crate::proofs::Lists::nothing_behind))]
+fn put_await_result(
+    code: &mut Vec<FlatInstruction>,
+    context: &FunctionContext,
+    kind: Kind,
+    temporary: usize,
+) -> Result<(), AllocError>
+    requires prepared { IsPrepared context.now }
+    requires there { temporary < most_temporaries context.now.function.now.code }
+    requires size { bytes_of_structure kind ≤ 2 ^ 62 }
+    ensures { OnOk result (code.new.items ≡ code.old.items ++ await_result operators context.now.map.now
+        context.now.program.now context.now.function.now kind temporary) }
+{
+    match kind {
+        Kind::Structure(size) => put_await(code, context, temporary, size, context.free()),
+        Kind::Void | Kind::Scalar(_) | Kind::Array(_) => Ok(()),
+    }
+}
+
+// Puts what stands behind a call for the sake of its result behind a list: an entry where it is handed over without
+// one, and what moves a structure.
+#[tactic(auto, using(crate::proofs::Lists::nothing_behind))]
+fn put_result(
+    code: &mut Vec<FlatInstruction>,
+    context: &FunctionContext,
+    kind: Kind,
+    with_entry: bool,
+    temporary: usize,
+) -> Result<(), AllocError>
+    requires prepared { IsPrepared context.now }
+    requires there { temporary < most_temporaries context.now.function.now.code }
+    ensures { OnOk result (code.new.items ≡ code.old.items ++ result_code context.now.program.now
+        context.now.function.now kind with_entry temporary) }
+{
+    let into = context.temporary(temporary);
+    let free = context.free();
+    match kind {
+        Kind::Scalar(Scalar::Pointer) => Ok(()),
+        Kind::Structure(_) => put_receive(code, context, with_entry, into, free),
+        Kind::Void | Kind::Scalar(Scalar::Integer(_)) | Kind::Array(_) => {
+            put_untagged(code, with_entry, into)
+        }
+    }
 }
 
 // Puts the tests of a call of a function behind a list.
@@ -112,10 +142,13 @@ fn put_call_of(
     requires callee { CanBeCalled callee.now }
     requires first { call.first < most_temporaries context.now.function.now.code }
     requires among { call.first + length callee.now.parameters ≤ most_temporaries context.now.function.now.code }
-    ensures { OnOk result (code.new.items ≡ code.old.items ++ call_code context.now.map.now context.now.program.now
-        context.now.function.now callee.now number call.line call.first call.with_entry) }
+    requires size { bytes_of_structure (result_of context.now.program.now callee.now) ≤ 2 ^ 62 }
+    ensures { OnOk result (code.new.items ≡ code.old.items ++ call_code operators context.now.map.now
+        context.now.program.now context.now.function.now callee.now number call.line call.first call.with_entry) }
 {
+    let given = result_of(context.program, callee);
     put_tests(code, context, callee, call.line)?;
+    put_await_result(code, context, given, call.first)?;
     let arguments = context.moved(call.first);
     let handed = handed_to(context.alloc, callee.parameters.as_slice())?;
     let into = context.temporary(call.first);
@@ -129,12 +162,7 @@ fn put_call_of(
             into,
         },
     )?;
-    put_result_entry(
-        code,
-        result_of(context.program, callee),
-        call.with_entry,
-        into,
-    )
+    put_result(code, context, given, call.with_entry, call.first)
 }
 
 // A function of a program, by its number.
@@ -158,8 +186,10 @@ fn put_called(
     requires callee { CanBeCalled callee.now }
     requires first { call.first < most_temporaries context.now.function.now.code }
     requires among { call.first + call.count ≤ most_temporaries context.now.function.now.code }
-    ensures { OnOk result (code.new.items ≡ code.old.items ++ call_of context.now.map.now context.now.program.now
-        context.now.function.now (Some callee.now) number call.line call.first call.count call.with_entry) }
+    requires size { bytes_of_structure (result_of context.now.program.now callee.now) ≤ 2 ^ 62 }
+    ensures { OnOk result (code.new.items ≡ code.old.items ++ call_of operators context.now.map.now
+        context.now.program.now context.now.function.now (Some callee.now) number call.line call.first call.count
+        call.with_entry) }
 {
     if callee.parameters.as_slice().len() == call.count {
         put_call_of(code, context, callee, number, call)
@@ -179,33 +209,16 @@ pub fn put_call(
     requires prepared { IsPrepared context.now }
     requires first { call.first < most_temporaries context.now.function.now.code }
     requires among { call.first + call.count ≤ most_temporaries context.now.function.now.code }
-    ensures { OnOk result (code.new.items ≡ code.old.items ++ call_of context.now.map.now context.now.program.now
-        context.now.function.now (function_in context.now.program.now number) number call.line call.first call.count
-        call.with_entry) }
+    requires size { bytes_of_structure (given_by context.now.program.now.results
+        (function_in context.now.program.now number)) ≤ 2 ^ 62 }
+    ensures { OnOk result (code.new.items ≡ code.old.items ++ call_of operators context.now.map.now
+        context.now.program.now context.now.function.now (function_in context.now.program.now number) number call.line
+        call.first call.count call.with_entry) }
 {
     match function_of(context.program, number) {
         None => put(code, FlatInstruction::End(Ending::BadCall(call.line))),
         Some(callee) => put_called(code, context, callee, number as u32, call),
     }
-}
-
-// How many registers the address of the area of a result takes, which a structure has.
-fn area_words(kind: Kind) -> u32
-    ensures value { result ≡ area_words kind }
-    ensures few { result ≤ 1 }
-{
-    match kind {
-        Kind::Structure(_) => 1,
-        Kind::Void | Kind::Scalar(_) | Kind::Array(_) => 0,
-    }
-}
-
-/// How many registers the arguments of a function take, with the address of the area of a result that is a structure.
-pub fn taken_words(program: &Tac, function: &CodeFunction) -> u32
-    requires { total parameter_words function.now.parameters < 2 ^ 31 }
-    ensures { result ≡ parameters_end function.now + area_words (result_of program.now function.now) }
-{
-    argument_words(function.parameters.as_slice()) + area_words(result_of(program, function))
 }
 
 /// How many registers the result of a function takes.
@@ -254,27 +267,29 @@ fn put_through_one(
     requires prepared { IsPrepared context.now }
     requires callee { CanBeCalled one.now }
     requires among { call.first + 1 + length one.now.parameters ≤ most_temporaries context.now.function.now.code }
-    ensures { OnOk result (code.new.items ≡ code.old.items ++ through_code context.now.map.now context.now.program.now
-        context.now.function.now one.now kind call.line call.first call.with_entry) }
+    requires size { bytes_of_structure (result_of context.now.program.now one.now) ≤ 2 ^ 62 }
+    ensures { OnOk result (code.new.items ≡ code.old.items ++ through_code operators context.now.map.now
+        context.now.program.now context.now.function.now one.now kind call.line call.first call.with_entry) }
 {
     let pointer = context.temporary(call.first);
     let _room = context.free();
+    let given = result_of(context.program, one);
     put_through_tests(code, context, kind, call.line, pointer)?;
+    put_await_result(code, context, given, call.first)?;
     let arguments = context.moved(call.first + 1);
     let handed = handed_to(context.alloc, one.parameters.as_slice())?;
     put_pack(code, context, &handed, arguments, call.first + 1)?;
-    let given = result_of(context.program, one);
     put(
         code,
         FlatInstruction::CallAddress {
             at: pointer,
             first: arguments,
-            count: taken_words(context.program, one),
+            count: argument_words(one.parameters.as_slice()),
             into: pointer,
             results: result_words(given),
         },
     )?;
-    put_result_entry(code, given, call.with_entry, pointer)?;
+    put_result(code, context, given, call.with_entry, call.first)?;
     Ok(())
 }
 
@@ -290,8 +305,10 @@ fn put_called_through(
     requires prepared { IsPrepared context.now }
     requires callee { CanBeCalled one.now }
     requires among { call.first + 1 + call.count ≤ most_temporaries context.now.function.now.code }
-    ensures { OnOk result (code.new.items ≡ code.old.items ++ through_of context.now.map.now context.now.program.now
-        context.now.function.now (Some one.now) kind call.line call.first call.count call.with_entry) }
+    requires size { bytes_of_structure (result_of context.now.program.now one.now) ≤ 2 ^ 62 }
+    ensures { OnOk result (code.new.items ≡ code.old.items ++ through_of operators context.now.map.now
+        context.now.program.now context.now.function.now (Some one.now) kind call.line call.first call.count
+        call.with_entry) }
 {
     if one.parameters.as_slice().len() == call.count {
         put_through_one(code, context, one, kind, call)
@@ -322,8 +339,9 @@ pub fn put_call_through(
 ) -> Result<(), AllocError>
     requires prepared { IsPrepared context.now }
     requires among { call.first + 1 + call.count ≤ most_temporaries context.now.function.now.code }
-    ensures { OnOk result (code.new.items ≡ code.old.items ++ through_of context.now.map.now context.now.program.now
-        context.now.function.now
+    requires size { bytes_of_structure (result_of_type context.now.program.now.results type_number) ≤ 2 ^ 62 }
+    ensures { OnOk result (code.new.items ≡ code.old.items ++ through_of operators context.now.map.now
+        context.now.program.now context.now.function.now
         (slice_get context.now.program.now.functions (first_of_type context.now.program.now.functions type_number))
         (first_of_type context.now.program.now.functions type_number) call.line call.first call.count call.with_entry) }
 {

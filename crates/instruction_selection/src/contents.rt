@@ -8,7 +8,8 @@ ghost use Rattle.metadata_plan.specs.Registers.{most_temporaries};
 ghost use Rattle.tac_ir.specs.Structures.{structures_below};
 ghost use Rattle.lib_wrappers.specs.AreaRoutines.Areas.{whole_words};
 ghost use Rattle.metadata_relation.specs.Blocks.{runtime_number};
-ghost use Rattle.metadata_relation.specs.Structures.{area_code, begin_area_code, bound_code, hold_area, take_part_code};
+ghost use Rattle.metadata_relation.specs.Structures.{area_code, await_code, begin_area_code, bound_code};
+ghost use Rattle.metadata_relation.specs.Structures.{callee_part_code, hold_area, receive_code, take_part_code};
 ghost use Rattle.metadata_relation.specs.Structures.{take_place_code, take_structure_code, zero_structure_code};
 ghost use Rattle.runtime_functions.specs.Library.{held_from};
 ghost use Rattle.rv_isa.specs.declared.instruction.RegOp.TheVariants.{Add as add_op};
@@ -38,6 +39,14 @@ pub struct AreaValue {
     pub with_entry: bool,
 }
 
+// Where the areas of all functions begin.
+fn areas_start(context: &FunctionContext) -> u64
+    ensures { result ≡ region_start context.now.map.now StructureValues }
+{
+    let (start, _) = context.map.region(Region::StructureValues);
+    start
+}
+
 // How far the area of a temporary stands behind what the calls are charged.
 fn area_offset(context: &FunctionContext, temporary: usize) -> u64
     requires prepared { IsPrepared context.now }
@@ -45,7 +54,7 @@ fn area_offset(context: &FunctionContext, temporary: usize) -> u64
     ensures { result ≡ region_start context.now.map.now StructureValues - context.now.function.now.room
         + 5 * structures_below context.now.program.now context.now.function.now.code temporary }
 {
-    let (start, _) = context.map.region(Region::StructureValues);
+    let start = areas_start(context);
     let below = context.structures_below(temporary);
     let room = context.function.room;
     if start < room {
@@ -107,19 +116,20 @@ fn put_bound(
 fn put_begin(
     code: &mut Vec<FlatInstruction>,
     context: &FunctionContext,
-    value: AreaValue,
+    temporary: usize,
+    size: u64,
     scratch: u32,
 ) -> Result<(), AllocError>
     requires prepared { IsPrepared context.now }
-    requires there { value.temporary ≤ most_temporaries context.now.function.now.code }
-    requires size { value.size ≤ 2 ^ 62 }
+    requires there { temporary ≤ most_temporaries context.now.function.now.code }
+    requires size { size ≤ 2 ^ 62 }
     requires room { scratch + 16 ≤ 2 ^ 31 }
     ensures { OnOk result (code.new.items ≡ code.old.items
-        ++ begin_area_code operators context.now.map.now context.now.program.now context.now.function.now value.size
-        value.temporary scratch) }
+        ++ begin_area_code operators context.now.map.now context.now.program.now context.now.function.now size
+        temporary scratch) }
 {
-    put_area(code, context, value.temporary, scratch)?;
-    put_bound(code, value.size, scratch, scratch + 1)?;
+    put_area(code, context, temporary, scratch)?;
+    put_bound(code, size, scratch, scratch + 1)?;
     put(
         code,
         FlatInstruction::Move {
@@ -191,7 +201,7 @@ pub fn put_zero_structure(
         ++ zero_structure_code operators context.now.map.now context.now.program.now context.now.function.now
         (runtime_number context.now.program.now) value.with_entry value.size value.temporary into scratch) }
 {
-    put_begin(code, context, value, scratch)?;
+    put_begin(code, context, value.temporary, value.size, scratch)?;
     put_constant(code, scratch + 3, value.size)?;
     put(
         code,
@@ -297,7 +307,95 @@ pub fn put_take(
         ++ take_structure_code operators context.now.map.now context.now.program.now context.now.function.now
         (runtime_number context.now.program.now) value.with_entry value.size value.temporary into from scratch) }
 {
-    put_begin(code, context, value, scratch)?;
+    put_begin(code, context, value.temporary, value.size, scratch)?;
     put_taken(code, context, value.size, from, scratch + 2)?;
     put_hold(code, value.with_entry, into, scratch, scratch + 1)
+}
+
+// Puts what gets registers the part that is all of a result of `size` bytes behind a list: it stands where the areas of
+// the function begin that is called next.
+fn put_callee_part(
+    code: &mut Vec<FlatInstruction>,
+    context: &FunctionContext,
+    size: u64,
+    into: u32,
+) -> Result<(), AllocError>
+    requires size { size ≤ 2 ^ 62 }
+    requires room { into + 8 ≤ 2 ^ 31 }
+    ensures { OnOk result (code.new.items ≡ code.old.items
+        ++ callee_part_code operators context.now.map.now size into) }
+{
+    put(code, FlatInstruction::Charged { into })?;
+    put_constant(code, into + 1, areas_start(context))?;
+    put_sum(code, into, into + 1)?;
+    put(
+        code,
+        FlatInstruction::Move {
+            into: into + 1,
+            from: into,
+        },
+    )?;
+    put_bound(code, size, into, into + 2)?;
+    put(
+        code,
+        FlatInstruction::Constant {
+            into: into + 3,
+            value: 0,
+        },
+    )?;
+    put(
+        code,
+        FlatInstruction::Constant {
+            into: into + 4,
+            value: 0,
+        },
+    )
+}
+
+/// Puts what a call begins with that gives a structure behind a list: registers get where the structure is to go, and
+/// which part it will be. It fails only for want of memory.
+pub fn put_await(
+    code: &mut Vec<FlatInstruction>,
+    context: &FunctionContext,
+    temporary: usize,
+    size: u64,
+    scratch: u32,
+) -> Result<(), AllocError>
+    requires prepared { IsPrepared context.now }
+    requires there { temporary ≤ most_temporaries context.now.function.now.code }
+    requires size { size ≤ 2 ^ 62 }
+    requires room { scratch + 16 ≤ 2 ^ 31 }
+    ensures { OnOk result (code.new.items ≡ code.old.items
+        ++ await_code operators context.now.map.now context.now.program.now context.now.function.now size temporary
+        scratch) }
+{
+    put_begin(code, context, temporary, size, scratch)?;
+    put_constant(code, scratch + 3, size)?;
+    put_callee_part(code, context, size, scratch + 4)
+}
+
+/// Puts what moves the structure that a call gave to the area of its temporary behind a list. It fails only for want of
+/// memory.
+pub fn put_receive(
+    code: &mut Vec<FlatInstruction>,
+    context: &FunctionContext,
+    with_entry: bool,
+    into: u32,
+    scratch: u32,
+) -> Result<(), AllocError>
+    requires prepared { IsPrepared context.now }
+    requires into { into ≤ 2 ^ 31 }
+    requires room { scratch + 16 ≤ 2 ^ 31 }
+    ensures { OnOk result (code.new.items ≡ code.old.items
+        ++ receive_code (runtime_number context.now.program.now) with_entry into scratch) }
+{
+    put(
+        code,
+        FlatInstruction::Call {
+            function: runtime_number(context, MOVE_AREA_PLACE),
+            first: scratch + 2,
+            into: scratch + 9,
+        },
+    )?;
+    put_hold(code, with_entry, into, scratch, scratch + 1)
 }

@@ -1,9 +1,11 @@
-//! Structures that are assigned, from their places or from contents (C99 6.5.16.1).
+//! Structures that are assigned, from their places or from contents, or handed over to parameters (C99 6.5.16.1,
+//! 6.5.2.2 paragraph 4).
 
 ghost use Rattle.std.specs.Prelude.{◌≡◌, ◌+◌, ◌<◌, ◌≤◌, ◌^◌, ◌++◌, length, IfOk, OnOk};
 ghost use Rattle.metadata_plan.specs.OperatorLists.Operators.{operators};
 ghost use Rattle.metadata_relation.specs.Blocks.{runtime_number, write_structure_code};
 ghost use Rattle.metadata_relation.specs.Structures.{assign_code, copy_code, move_part, part_call_code, put_code};
+ghost use Rattle.metadata_relation.specs.Structures.{store_structure_code};
 ghost use Rattle.runtime_functions.specs.Library.{held_from};
 ghost use Rattle.instruction_selection.specs.Contexts.{IsPrepared};
 ghost use Rattle.instruction_selection.specs.Structures.{either_code};
@@ -267,4 +269,30 @@ pub fn put_structure_write(
     )?;
     put_moved(code, context, has_area, value, size, scratch)?;
     put_value(code, with_entry, into, pointer)
+}
+
+/// Puts what moves a structure of `size` bytes from the registers of an argument to the home of its parameter behind a
+/// list. It fails only for want of memory.
+pub fn put_store_structure(
+    code: &mut Vec<FlatInstruction>,
+    context: &FunctionContext,
+    size: u64,
+    home: u32,
+    from: u32,
+    scratch: u32,
+) -> Result<(), AllocError>
+    requires prepared { IsPrepared context.now }
+    requires from { from ≤ 2 ^ 31 }
+    requires room { scratch + 14 ≤ 2 ^ 31 }
+    ensures { OnOk result (code.new.items ≡ code.old.items
+        ++ store_structure_code operators (runtime_number context.now.program.now) size home from scratch) }
+{
+    put(
+        code,
+        FlatInstruction::Move {
+            into: scratch,
+            from: home,
+        },
+    )?;
+    put_part_call(code, context, PUT_AREA_PLACE, size, from, scratch)
 }

@@ -78,14 +78,14 @@ pub is_among : (t : Tac) (c : CodeFunction) (n : ℕ) (i : Instruction) → IsWi
 is_among t c n i h e =
     let named : names_own t c i ≡ true = holds_at (names_own t c) c.code n i h.names e in
     let first = parts (nat_le (last_handed t i) (most_temporaries c.code))
-    (nat_le (function_named i) (2 ^ 12) && (leaves_objects c i && nat_le (structure_taken i) (2 ^ 62))) named in
-    let second = parts (nat_le (function_named i) (2 ^ 12)) (leaves_objects c i && nat_le (structure_taken i) (2 ^ 62))
+    (nat_le (function_named i) (2 ^ 12) && (leaves_objects c i && nat_le (structure_taken t i) (2 ^ 62))) named in
+    let second = parts (nat_le (function_named i) (2 ^ 12)) (leaves_objects c i && nat_le (structure_taken t i) (2 ^ 62))
     first.1 in
-    let third = parts (leaves_objects c i) (nat_le (structure_taken i) (2 ^ 62)) second.1 in
+    let third = parts (leaves_objects c i) (nat_le (structure_taken t i) (2 ^ 62)) second.1 in
     record {
       temporaries = most_at c.code n i e;
       handed = leb-true (last_handed t i) (most_temporaries c.code) first.0;
       functions = leb-true (function_named i) (2 ^ 12) second.0;
       left = third.0;
-      taken = leb-true (structure_taken i) (2 ^ 62) third.1;
+      taken = leb-true (structure_taken t i) (2 ^ 62) third.1;
     }

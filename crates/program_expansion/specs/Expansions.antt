@@ -14,7 +14,7 @@ use Rattle.metadata_relation.specs.FunctionTypes.{HaveTypeKeys}
 use Rattle.metadata_relation.specs.InlineLists.{inline_lists}
 use Rattle.metadata_relation.specs.Structures.{HaveAreas}
 use Rattle.metadata_plan.specs.Laid.{body_of}
-use Rattle.metadata_relation.specs.Registers.{area_words, parameters_end, result_words}
+use Rattle.metadata_relation.specs.Registers.{parameters_end, result_words}
 use Rattle.metadata_relation.specs.Blocks.{Expansion, block, prologue, result_of}
 use Rattle.metadata_relation.specs.Homes.{homes}
 use Rattle.metadata_relation.specs.Laid.{program_of}
@@ -60,7 +60,7 @@ CanPutIn x i = IsPrepared x × IsAmong x.program.now x.function.now i
 -- a function but for its body
 abbrev pub flat_function : Tac → CodeFunction → (body : List FlatInstruction) → FlatFunction
 flat_function t c body = record {
-  parameters = parameters_end c + area_words (result_of t c);
+  parameters = parameters_end c;
   results = result_words (result_of t c);
   room = c.room;
   is_runtime = false;

@@ -27,12 +27,12 @@ HaveFewBytes ps vs = total padded_size ps + total padded_size vs ≤ 2 ^ 62
 abbrev pub HaveObjectsOf : (all declared : List Variable) → Type 0
 HaveObjectsOf all vs = (x : ℕ) → (at_number vs x).is_object ≡ true → (at_number all x).is_object ≡ true
 
--- an instruction names temporaries of its function, and functions that have an address in the jump table, and takes a
--- structure whose bytes have a number of 62 bits
+-- an instruction names temporaries of its function, and functions that have an address in the jump table, and puts
+-- structures of 2^62 bytes at most into temporaries
 abbrev pub names_own : Tac → CodeFunction → Instruction → Bool
 names_own t c i =
     nat_le (last_handed t i) (most_temporaries c.code)
-    && (nat_le (function_named i) (2 ^ 12) && (leaves_objects c i && nat_le (structure_taken i) (2 ^ 62)))
+    && (nat_le (function_named i) (2 ^ 12) && (leaves_objects c i && nat_le (structure_taken t i) (2 ^ 62)))
 
 -- its registers and the bytes of its variables have small numbers, and its body declares objects of its own
 pub record IsSmall (function : CodeFunction) : Type 0 where

@@ -13,7 +13,8 @@ use crate::source::FunctionBlocks;
 use crate::tables::Tables;
 use flat_code::{FlatFunction, FlatInstruction};
 use instruction_selection::areas::structure_areas;
-use instruction_selection::calls::{result_of, result_words, taken_words};
+use instruction_selection::calls::{result_of, result_words};
+use instruction_selection::registers::argument_words;
 use instruction_selection::{FunctionContext, Registers};
 use metadata_expansion::body::put_body;
 use metadata_expansion::entry_table;
@@ -101,7 +102,7 @@ pub fn expand_function<S: ShadowForm>(
     let body = body_of::<S>(tables, function, &registers, areas.as_slice())?;
     let homes = homes(tables.alloc, function, &registers)?;
     Ok(FlatFunction {
-        parameters: taken_words(program, function),
+        parameters: argument_words(function.parameters.as_slice()),
         results: result_words(result_of(program, function)),
         room: function.room,
         is_runtime: false,

@@ -9,11 +9,11 @@ ghost use Rattle.tac_ir.specs.Meaning.{objects_in, text_in};
 ghost use Rattle.metadata_plan.specs.Registers.{all_variables, most_temporaries};
 ghost use Rattle.instruction_selection.specs.Calls.{argument_count};
 ghost use Rattle.instruction_selection.specs.Registers.{function_named, last_handed, leaves_objects};
-ghost use Rattle.instruction_selection.specs.Registers.{bytes_of_structure, structure_taken};
 ghost use Rattle.program_expansion.specs.Limits.{names_own};
 
+use c_tree::Routine;
 use c_tree::format::Piece;
-use c_tree::{Kind, Routine};
+use instruction_selection::areas::structure_put;
 use instruction_selection::blocks::{block_objects, has_objects};
 use instruction_selection::formats::pieces_of;
 use instruction_selection::initializers::text_of;
@@ -86,28 +86,6 @@ fn function_named(instruction: &Instruction) -> usize
     }
 }
 
-// The bytes of a kind that is that of a structure.
-fn bytes_of_structure(kind: Kind) -> u64
-    ensures { result ≡ bytes_of_structure kind }
-{
-    match kind {
-        Kind::Structure(size) => size,
-        Kind::Void | Kind::Scalar(_) | Kind::Array(_) => 0,
-    }
-}
-
-// The bytes of a structure that an instruction makes of zeros, or takes.
-fn structure_taken(instruction: &Instruction) -> u64
-    ensures { result ≡ structure_taken instruction.now }
-{
-    match instruction {
-        Instruction::ZeroOf { kind, .. } | Instruction::Take { kind, .. } => bytes_of_structure(
-            *kind,
-        ),
-        _ => 0,
-    }
-}
-
 // Whether a block that is left has objects.
 fn leaves_objects(
     alloc: Global,
@@ -141,7 +119,7 @@ fn names_own(
     let handed = last_handed(alloc, program, instruction)? <= temporaries;
     let functions = function_named(instruction) <= 1 << 12;
     let objects = leaves_objects(alloc, function, instruction)?;
-    let structures = structure_taken(instruction) <= 1 << 62;
+    let structures = structure_put(program, instruction).size <= 1 << 62;
     Ok(handed && (functions && (objects && structures)))
 }
 

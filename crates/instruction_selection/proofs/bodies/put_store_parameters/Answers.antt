@@ -8,8 +8,8 @@ pub loop-i-preserved : goal.loop-i-preserved
 loop-i-preserved g c =
     let same = c.as_slice-parameters.ensures in
     next_stored (inline_lists g.S.ShadowForm.entry_read g.S.ShadowForm.entry_write c.args.context.now.map.now)
-    c.args.context.now.function.now c.args.context.now.function.now.parameters c.loop-i.i c.variable_at.result
-    c.loop-i.code.items (subst (λ ps. c.loop-i.i < length ps) same c.loop-i-test.true)
+    c.args.context.now.program.now c.args.context.now.function.now c.args.context.now.function.now.parameters c.loop-i.i
+    c.variable_at.result c.loop-i.code.items (subst (λ ps. c.loop-i.i < length ps) same c.loop-i-test.true)
     (subst (λ ps. slice_get ps c.loop-i.i ≡ Some c.variable_at.result) same c.variable_at.ensures)
     c.in_ok-put_if_object.ensures
     ∙ c.loop-i.invariant

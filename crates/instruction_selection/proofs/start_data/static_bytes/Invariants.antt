@@ -1,4 +1,4 @@
-use Rattle.std.proofs.Common.{◌≡◌, ◌+◌, ◌++◌, drop}
+use Rattle.std.proofs.Common.{◌≡◌, ◌++◌, drop}
 use Rattle.metadata_relation.specs.StartData.{statics_end, bytes_of_statics}
 use Rattle.instruction_selection.proofs.start_data.static_bytes.Given as goal
 

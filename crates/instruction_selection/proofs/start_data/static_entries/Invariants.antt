@@ -1,4 +1,4 @@
-use Rattle.std.proofs.Common.{◌≡◌, ◌+◌, ◌++◌, drop}
+use Rattle.std.proofs.Common.{◌≡◌, ◌++◌, drop}
 use Rattle.addr_map.specs.Places.{objects_begin}
 use Rattle.metadata_relation.specs.StartData.{statics_end, entries_of_statics}
 use Rattle.instruction_selection.specs.StartData.{type_in}

@@ -1,5 +1,5 @@
--- The blocks of structures: those that are assigned or stored, made of zeros, and taken; and what calls do for those that
--- they give and parameters that are stored.
+-- The blocks of structures: those that are assigned or stored, made of zeros, and taken; and what calls do for those
+-- that they give, and for parameters that are stored.
 use Rattle.std.proofs.Common.{◌≡◌, ◌⊎◌, inl, inr, ℕ, zero, suc, ◌+◌, ◌<◌, refl, ap, subst, arith, append_assoc}
 use Rattle.std.proofs.Common.{Bool, true, false, List, [], ◌∷◌, ◌++◌, length}
 use Rattle.addr_map.specs.declared.region.Region.TheVariants.{StructureValues}

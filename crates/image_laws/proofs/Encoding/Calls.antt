@@ -1,5 +1,5 @@
 -- What stands before calls, the blocks of calls, and blocks that are entered are of instructions that the machine has.
-use Rattle.std.proofs.Common.{◌≡◌, inl, ℕ, zero, suc, ◌+◌, ◌-◌, ◌*◌, ◌^◌, ◌<◌, ◌≤◌, arith, Bool, true, false, List, []}
+use Rattle.std.proofs.Common.{inl, ℕ, suc, ◌+◌, ◌*◌, ◌^◌, ◌<◌, ◌≤◌, arith, Bool, true, false, List, []}
 use Rattle.std.proofs.Common.{◌∷◌}
 use Rattle.std.proofs.Common.{◌++◌, map, length, Option, Some, None}
 use Rattle.std.specs.Prelude.{◌==◌, if◌then◌else◌}
@@ -15,7 +15,6 @@ use Rattle.source_meaning.specs.Blocks.{objects_end, has_objects}
 use Rattle.tac_ir.specs.declared.function.CodeFunction.{CodeFunction}
 use Rattle.tac_ir.specs.declared.function.Tac.{Tac}
 use Rattle.flat_code.specs.declared.instruction.RightOperand.TheVariants.{Register, Number}
-use Rattle.flat_code.specs.declared.instruction.FlatInstruction.{FlatInstruction}
 use Rattle.flat_code.specs.declared.instruction.FlatInstruction.TheVariants as flat
 use Rattle.flat_code.specs.declared.registers.Entry.{Entry}
 use Rattle.flat_operators.specs.Operators.{constant_code, wide_code}
@@ -24,10 +23,9 @@ use Rattle.lib_wrappers.specs.AllocatingRoutines.Entering.{block_bytes}
 use Rattle.runtime_functions.specs.Library.{held_from}
 use Rattle.metadata_plan.specs.Blocks.{call_tests}
 use Rattle.metadata_plan.specs.OperatorLists.Operators.{operators}
-use Rattle.metadata_relation.specs.FunctionTypes.{first_of_type}
 use Rattle.metadata_relation.specs.Registers.{passed_as, temporary_register, moved_register, first_free, home_entry}
-use Rattle.metadata_relation.specs.Registers.{top_register, parameters_end, result_words}
-use Rattle.metadata_relation.specs.Blocks.{number_code, number_operand, space_test, object_tests, objects_of_body}
+use Rattle.metadata_relation.specs.Registers.{parameters_end, result_words}
+use Rattle.metadata_relation.specs.Blocks.{number_code, space_test, object_tests, objects_of_body}
 use Rattle.metadata_relation.specs.Blocks.{result_of, await_result, result_code}
 use Rattle.metadata_relation.specs.Blocks.{pack, call_code, call_of, callee_tests, room_tests}
 use Rattle.metadata_relation.specs.Blocks.{units_tests}

@@ -1,6 +1,6 @@
 -- Expanded programs are encodable, and can be begun.
-use Rattle.std.proofs.Common.{◌≡◌, inl, ℕ, zero, suc, ◌+◌, ◌*◌, ◌^◌, ◌<◌, ◌≤◌, refl, sym, subst, arith, true, false}
-use Rattle.std.proofs.Common.{List, [], ◌∷◌, ◌++◌, length, Option, Some, None}
+use Rattle.std.proofs.Common.{◌≡◌, inl, ℕ, zero, suc, ◌*◌, ◌^◌, ◌<◌, ◌≤◌, refl, sym, subst, arith, true, false}
+use Rattle.std.proofs.Common.{List, [], ◌∷◌, length, Option, Some, None}
 use Rattle.std.specs.Prelude.{slice_get}
 use Rattle.addr_map.specs.Places.{region_size}
 use Rattle.obj_memory.specs.declared.value.Scalar.TheVariants.{Integer, Pointer}
@@ -20,13 +20,13 @@ use Rattle.machine_laws.specs.Following.Code.{IsEncodable}
 use Rattle.machine_laws.specs.Following.Start.{IsStartable}
 use Rattle.runtime_functions.specs.Library.{register_count}
 use Rattle.metadata_relation.specs.InlineLists.{inline_lists}
-use Rattle.metadata_relation.specs.Registers.{passed_as, parameter_words, total, parameters_end}
+use Rattle.metadata_relation.specs.Registers.{passed_as, parameter_words, total}
 use Rattle.metadata_relation.specs.Registers.{result_words}
 use Rattle.metadata_relation.specs.Blocks.{Expansion, block, prologue, result_of, start_code, main_tests, before_main}
 use Rattle.metadata_relation.specs.Blocks.{entry_code, objects_of_body}
 use Rattle.metadata_relation.specs.Laid.{function_of, entry_of, program_of}
 use Rattle.metadata_plan.specs.Blocks.{call_tests}
-use Rattle.image_laws.specs.Encoding.Fitting.{IsFit, AreFit, FitEntries, HasShortPlaces, FitsFunction, FitsCode}
+use Rattle.image_laws.specs.Encoding.Fitting.{IsFit, AreFit, FitEntries, HasShortPlaces, FitsCode}
 use Rattle.image_laws.specs.Encoding.Fitting.{HasRooms}
 use Rattle.image_laws.proofs.Plans.Expansions.{of_each, entry_last}
 use Rattle.image_laws.proofs.Encoding.Parts.{fit_append, short}

@@ -1,12 +1,11 @@
 -- Functions of the runtime are of instructions that the machine has: the only endings that stay in one are exits, which have
 -- no line.
-use Rattle.std.proofs.Common.{◌≡◌, inl, inr, ⊎_elim, ℕ, zero, suc, ◌+◌, ◌-◌, ◌^◌, ◌<◌, ◌≤◌, sym, ap, subst, arith, Bool}
+use Rattle.std.proofs.Common.{◌≡◌, inl, inr, ⊎_elim, ℕ, zero, suc, ◌+◌, ◌-◌, ◌^◌, ◌<◌, ◌≤◌, sym, subst, arith}
 use Rattle.std.proofs.Common.{true}
-use Rattle.std.proofs.Common.{false, List, [], ◌∷◌, ◌++◌, length, Some, nat_lt, nat_le}
-use Rattle.std.specs.Prelude.{◌&&◌, ◌||◌, slice_get}
-use Rattle.std.proofs.lemmas.Bool.{and_parts, or_cases, ltb-true, leb-true, false≢true}
+use Rattle.std.proofs.Common.{List, [], ◌∷◌, ◌++◌, length, Some, nat_lt, nat_le}
+use Rattle.std.specs.Prelude.{◌&&◌, slice_get}
+use Rattle.std.proofs.lemmas.Bool.{and_parts, or_cases, ltb-true, leb-true}
 use Rattle.std.proofs.lemmas.Option.{same_Some, none-some}
-use Rattle.sb_base.specs.declared.ending.Ending.{Ending}
 use Rattle.sb_base.specs.declared.ending.Ending.TheVariants as ending
 use Rattle.sb_base.specs.Endings.{code_of}
 use Rattle.addr_map.specs.Places.{MapSizes}
@@ -17,7 +16,7 @@ use Rattle.flat_code.specs.declared.instruction.FlatInstruction.TheVariants as f
 use Rattle.flat_code.specs.declared.function.FlatFunction.{FlatFunction}
 use Rattle.flat_code.specs.Memory.{Bytes}
 use Rattle.flat_code.specs.Routines.Metadata.{View}
-use Rattle.flat_code.specs.Routines.Shape.{is_short, has_right, is_shaped}
+use Rattle.flat_code.specs.Routines.Shape.{is_short, has_right}
 use Rattle.machine_laws.specs.Blocks.Blocks.{IsShort, RightIsShort}
 use Rattle.machine_laws.specs.Blocks.Tails.{line_of}
 use Rattle.runtime_functions.specs.declared.runtime.RuntimeFunction.{RuntimeFunction}

@@ -1,6 +1,6 @@
 -- Functions of checked code: where one is entered no temporary is needed, homes are read in their blocks, and each register
 -- has a home of its own.
-use Rattle.std.proofs.Common.{◌≡◌, ◌⊎◌, inl, inr, ℕ, zero, suc, ◌+◌, ◌*◌, ◌<◌, ◌≤◌, ◌==◌, Bool, true, false, ◌&&◌, List, []}
+use Rattle.std.proofs.Common.{◌≡◌, ℕ, zero, suc, ◌+◌, ◌*◌, ◌<◌, ◌≤◌, ◌==◌, Bool, true, false, List, []}
 use Rattle.std.proofs.Common.{◌∷◌, ◌++◌, map, length, get_or, Option, Some, None, refl, sym, ap, ◌∙◌, subst, arith}
 use Rattle.std.specs.Prelude.{slice_get, max, if◌then◌else◌}
 use Rattle.std.specs.List.{list_all}
@@ -16,7 +16,7 @@ use Rattle.c_tree.specs.Kinds.{integer, is_kind, Signature}
 use Rattle.c_tree.specs.Room.{room}
 use Rattle.c_tree.specs.Valid.{no_signature, has_number}
 use Rattle.c_tree.specs.ValidProgram.{is_valid_program, is_function_type, are_all_different, is_static_object, are_functions}
-use Rattle.c_tree.specs.ValidProgram.{is_main, is_main_signature, is_function, are_parameters, is_variable, declares_all}
+use Rattle.c_tree.specs.ValidProgram.{is_main, is_main_signature, are_parameters, is_variable, declares_all}
 use Rattle.c_tree.specs.ValidProgram.{are_statements, function_scope, signature_of, signature_at}
 use Rattle.source_meaning.specs.State.{Header}
 use Rattle.source_meaning.specs.Blocks.{has_objects}
@@ -36,7 +36,7 @@ use Rattle.metadata_relation.specs.Homes.{HasRoom}
 use Rattle.metadata_relation.specs.Registers.{result_words}
 use Rattle.metadata_relation.specs.Blocks.{objects_of_body, result_of}
 use Rattle.c_lower.specs.Placed.{Placed, Holds}
-use Rattle.c_lower.specs.Programs.{IsLowered, LowersFunction, literals_of, placed_in, function_exits, result_in, height_in}
+use Rattle.c_lower.specs.Programs.{LowersFunction, literals_of, placed_in, function_exits, result_in, height_in}
 use Rattle.c_lower.specs.Liveness.Liveness.{IsLive}
 use Rattle.c_lower.proofs.Liveness.Statements.{none_is_live}
 use Rattle.check_insert.specs.Inserted.{FunctionIn, InsertedAt}

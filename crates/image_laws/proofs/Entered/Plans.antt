@@ -4,16 +4,12 @@ use Rattle.std.proofs.Common.{refl}
 use Rattle.std.proofs.Common.{◌∙◌, arith}
 use Rattle.std.specs.Prelude.{slice_get}
 use Rattle.std.proofs.lemmas.Bool.{eqb-true, and_parts, false≢true}
-use Rattle.addr_map.specs.Places.{MapSizes}
 use Rattle.c_tree.specs.declared.program.Variable.{Variable}
 use Rattle.c_tree.specs.Programs.{Program}
 use Rattle.c_tree.specs.ValidProgram.{is_valid_program}
 use Rattle.tac_ir.specs.declared.function.CodeFunction.{CodeFunction}
 use Rattle.tac_ir.specs.declared.function.Tac.{Tac}
 use Rattle.tac_ir.specs.Meaning.{function_in as code_in}
-use Rattle.flat_code.specs.declared.function.FlatFunction.{FlatFunction}
-use Rattle.flat_code.specs.Calls.{function_in}
-use Rattle.flat_code.specs.Meaning.{parameters_of, results_of}
 use Rattle.flat_code.specs.Memory.{Bytes}
 use Rattle.flat_code.specs.Routines.Metadata.{View}
 use Rattle.shadow_space.specs.Form.{EntryCode}
@@ -21,7 +17,7 @@ use Rattle.metadata_relation.specs.Expanded.{IsExpanded}
 use Rattle.metadata_relation.specs.Homes.{HasRoom, homes, register_count}
 use Rattle.metadata_relation.specs.Blocks.{Expansion, result_of}
 use Rattle.metadata_relation.specs.Laid.{function_of, program_of, layout_of}
-use Rattle.metadata_relation.specs.Registers.{is_no_aggregate, total, parameter_words, parameters_end, result_words}
+use Rattle.metadata_relation.specs.Registers.{is_no_aggregate, total, parameter_words, parameters_end}
 use Rattle.metadata_relation.specs.Stages.{Compiled}
 use Rattle.metadata_relation.specs.Steps.{AreAllCovered, is_covered_call, is_covered_main}
 use Rattle.reg_plan.specs.Planned.{ArePlannable}
@@ -29,7 +25,7 @@ use Rattle.image_laws.specs.Images.Images.{IsChecked}
 use Rattle.image_laws.specs.Images.Expansions.{Laid, IsLaidExpansion, HasPlannableParts, compiled_of}
 use Rattle.image_laws.specs.Plans.Assignment.{HasOwnHomes}
 use Rattle.image_laws.specs.Plans.EntryLists.{AssignEntries}
-use Rattle.image_laws.specs.Plans.Instructions.{IsDefinite, IsWhole, HasCallees, HasDefiniteFunctions}
+use Rattle.image_laws.specs.Plans.Instructions.{IsDefinite, IsWhole, HasCallees}
 use Rattle.image_laws.proofs.Assignment.Coverage.{covered_assigns}
 use Rattle.image_laws.proofs.Assignment.Expanded.{callees_of}
 use Rattle.image_laws.proofs.Assignment.Programs.{program_plannable}

@@ -1,7 +1,7 @@
 -- The code of statements needs the homes alone of objects that are named where it stands, whose blocks were entered.
 use Rattle.std.proofs.Common.{◌≡◌, ◌⊎◌, inl, inr, ⊎_elim, ℕ, zero, suc, Bool, true, false, ◌||◌, List, [], ◌∷◌, Option}
 use Rattle.std.proofs.Common.{Some}
-use Rattle.std.proofs.Common.{None, refl, sym, ap, ◌∙◌, subst}
+use Rattle.std.proofs.Common.{None, refl, sym, ap, subst}
 use Rattle.std.specs.Prelude.{slice_get}
 use Rattle.std.specs.List.{list_all}
 use Rattle.std.proofs.lemmas.Bool.{cases_Bool, or_cases, false≢true, both_ways}
@@ -41,7 +41,7 @@ use Rattle.c_lower.proofs.KeyNames.{object_found}
 use Rattle.image_laws.specs.Plans.Assignment.{Registers, IsOneOf}
 use Rattle.image_laws.specs.Plans.Instructions.{entered_registers, left_registers, entered_by}
 use Rattle.image_laws.proofs.Entered.Along as steps
-use Rattle.image_laws.proofs.Entered.Scopes.{IsScoped, scoped_within, scoped_more, some_object, home_entered}
+use Rattle.image_laws.proofs.Entered.Scopes.{IsScoped, scoped_within, some_object, home_entered}
 use Rattle.image_laws.proofs.Entered.Scopes.{left_entered}
 use Rattle.image_laws.proofs.Entered.Values.{needed, AlongAt, goes, parts, of_expression, of_argument}
 

@@ -10,7 +10,6 @@ use Rattle.c_tree.specs.Tree.{logical_or, comma, conditional, assign, assign_pla
 use Rattle.c_tree.specs.Tree.{step_plain, call, call_through, library, printf, LvalueNode, automatic, static, deref}
 use Rattle.c_tree.specs.Tree.{index, member, arrow, member_of_value, parenthesized_lvalue, kind_of, line_of}
 use Rattle.c_tree.specs.Valid.{Scope, variable_at, is_valid, is_node, are_valid, is_valid_lvalue, is_valid_lvalue_node}
-use Rattle.source_meaning.specs.Good.{object_kind}
 use Rattle.source_meaning.proofs.ValidNames.{both, three, four, five, six}
 use Rattle.tac_ir.specs.declared.instruction.Test.TheVariants.{Spatial}
 use Rattle.tac_ir.specs.declared.instruction.Instruction.{Instruction}
@@ -20,9 +19,7 @@ use Rattle.tac_ir.specs.declared.key.Base.TheVariants.{Plain, Automatic, Static}
 use Rattle.tac_ir.specs.declared.key.Key.{Key}
 use Rattle.tac_ir.specs.declared.function.CodeFunction.{CodeFunction}
 use Rattle.tac_ir.specs.Edges.{LeadsTo}
-use Rattle.flat_code.specs.Routines.Metadata.{entry_registers}
 use Rattle.metadata_plan.specs.Entries.{key_in, can_compare}
-use Rattle.metadata_relation.specs.Registers.{home_entry}
 use Rattle.c_lower.specs.Placed.{Placed}
 use Rattle.c_lower.specs.Values.{LowersExpression, LowersNode, LowersLvalue, LowersPlace, LowersArguments, KeyIs}
 use Rattle.c_lower.specs.Values.{LowersTaking, LowersArgument, Converts}

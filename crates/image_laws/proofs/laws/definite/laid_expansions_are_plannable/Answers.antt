@@ -1,6 +1,5 @@
 use Rattle.std.proofs.Common.{sym, subst}
 use Rattle.metadata_relation.specs.Homes.{homes}
-use Rattle.runtime_functions.specs.Runtime.{runtime_list, AreOfRuntime}
 use Rattle.image_laws.specs.Images.Images.{IsChecked}
 use Rattle.image_laws.specs.Images.Expansions.{IsLaidExpansion}
 use Rattle.image_laws.proofs.Entered.Plans.{plannable}

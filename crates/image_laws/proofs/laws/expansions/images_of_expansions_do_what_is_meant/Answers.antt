@@ -4,7 +4,6 @@ use Rattle.behaviours.specs.Steps.{run}
 use Rattle.source_meaning.specs.Meaning.{meaning}
 use Rattle.tac_ir.specs.Meaning.{tac_meaning, step, setting_of_code, first_stage}
 use Rattle.tac_ir.specs.Stage.{Stuck}
-use Rattle.flat_code.specs.State as flat
 use Rattle.machine_laws.specs.Following.Matching.{object_bytes, space_bytes}
 use Rattle.metadata_relation.specs.Laid.{program_of}
 use Rattle.metadata_relation.specs.StartData.{bytes_of_statics}

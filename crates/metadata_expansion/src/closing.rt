@@ -114,8 +114,8 @@ fn given(instruction: &Instruction) -> Option<usize>
     }
 }
 
-// Puts a temporary into a set where that is wanted.
-pub(crate) fn insert_if(set: &mut TemporarySet, temporary: usize, wanted: bool)
+/// Puts a temporary into a set where that is wanted.
+pub fn insert_if(set: &mut TemporarySet, temporary: usize, wanted: bool)
     requires { temporary < room set.old }
     ensures room { room set.new ≡ room set.old }
     ensures more { (y : ℕ) → is_in set.new y ≡ (is_in set.old y || (y == temporary && wanted)) }
@@ -125,9 +125,9 @@ pub(crate) fn insert_if(set: &mut TemporarySet, temporary: usize, wanted: bool)
     }
 }
 
-// Puts so many temporaries from one on into a set.
+/// Puts so many temporaries from one on into a set.
 #[tactic(auto, using(crate::proofs::ClosedSets::among_step))]
-pub(crate) fn insert_among(set: &mut TemporarySet, first: usize, count: usize)
+pub fn insert_among(set: &mut TemporarySet, first: usize, count: usize)
     requires inside { first + count ≤ room set.old }
     requires small { room set.old < 2 ^ 64 }
     ensures room { room set.new ≡ room set.old }

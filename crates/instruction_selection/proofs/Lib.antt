@@ -15,4 +15,5 @@ pub mod StaticPlaces
 pub mod StructureAreas
 pub mod StructureLists
 pub mod TypeKeys
+pub mod WordUses
 pub mod StartBytes

@@ -48,7 +48,7 @@ fn given_by(program: &Tac, function: usize) -> Kind
 }
 
 // What functions of a type give.
-fn given_by_type(program: &Tac, type_number: usize) -> Kind
+pub(crate) fn given_by_type(program: &Tac, type_number: usize) -> Kind
     ensures { result ≡ result_of_type program.now.results type_number }
 {
     match program.results.as_slice().get(type_number) {
@@ -120,7 +120,7 @@ fn raise(list: &mut Vec<u128>, put: StructurePut)
 
 // The greatest structure of each of so many temporaries.
 #[tactic(auto, using(crate::proofs::StructureAreas::none_yet, crate::proofs::StructureAreas::one_more, crate::proofs::StructureAreas::all_greatest))]
-fn greatest_structures(
+pub(crate) fn greatest_structures(
     alloc: Global,
     program: &Tac,
     instructions: &[Instruction],

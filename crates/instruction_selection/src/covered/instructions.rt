@@ -8,7 +8,8 @@ ghost use Rattle.tac_ir.specs.Fitting.{is_word};
 ghost use Rattle.tac_ir.specs.Meaning.{objects_in};
 ghost use Rattle.lib_wrappers.specs.AllocatingRoutines.Entering.{block_bytes};
 ghost use Rattle.metadata_plan.specs.Registers.{all_variables};
-ghost use Rattle.metadata_relation.specs.Steps.{is_no_aggregate, is_sized as has_bytes, is_update_by_word, is_settled, is_few};
+ghost use Rattle.metadata_relation.specs.Registers.{is_no_aggregate};
+ghost use Rattle.metadata_relation.specs.Steps.{is_sized as has_bytes, is_update_by_word, is_settled, is_few};
 ghost use Rattle.metadata_relation.specs.Steps.{is_part, are_sized, can_be_entered, covers, is_scalar_type};
 ghost use Rattle.instruction_selection.specs.Covered.{is_tested, is_access};
 

@@ -32,10 +32,10 @@ use Rattle.metadata_relation.specs.Homes.{homes}
 use Rattle.metadata_relation.specs.Laid.{program_of}
 use Rattle.metadata_relation.specs.StartData.{bytes_of_statics, entry_of_tag, entries_of_tags, entries_of_statics}
 use Rattle.metadata_relation.proofs.StartData.{are_start_entries}
-use Rattle.instruction_selection.specs.Covered.{IsCoveredCode, no_contents}
+use Rattle.instruction_selection.specs.Covered.{IsCoveredProgram}
 use Rattle.instruction_selection.specs.StartData.{HasWords, HaveWords}
 use Rattle.instruction_selection.proofs.Coverages.{all_covered}
-use Rattle.program_expansion.specs.Expansions.{IsExpansionOf, expansion_of}
+use Rattle.program_expansion.specs.Expansions.{IsExpansionOf, expansion_with}
 use Rattle.reg_plan.specs.declared.plan.FunctionPlan.{FunctionPlan}
 use Rattle.reg_plan.specs.Tests.{AreAccepted}
 use Rattle.machine_laws.specs.Following.Code.{IsEncodable}
@@ -66,11 +66,12 @@ runtime_few map entry IsGood runtime h =
     omega (arith, same)
 
 pub expanded_flat : (read write : EntryCode) (entry : View) (IsGood : Bytes → Type 0) (map : MapSizes) (code : Tac)
-    (runtime : List FlatFunction) (program flat : FlatProgram) → IsCoveredCode code no_contents
+    (runtime : List FlatFunction) (program flat : FlatProgram) → IsCoveredProgram code
     → AreOfRuntime map entry IsGood runtime_list runtime → IsExpansionOf read write map code runtime program
     → flat ≡ propagated program → IsExpandedFlat read write entry IsGood map code flat
 expanded_flat read write entry IsGood map code runtime program flat covered of_runtime h same =
-    let l : Laid = record { expansion = expansion_of read write map code h.types h.entries; homes = homes; runtime = runtime } in
+    let e : Expansion = expansion_with read write map code h.types h.entries covered.contents in
+    let l : Laid = record { expansion = e; homes = homes; runtime = runtime } in
     record {
       laid = l;
       is_laid = record {
@@ -81,13 +82,13 @@ expanded_flat read write entry IsGood map code runtime program flat covered of_r
           types = h.keys;
           low = h.low;
           entries = h.closed;
-          contents = h.kept;
+          contents = covered.kept;
           areas = h.areas;
         };
         of_runtime = of_runtime;
-        covered = λ (typed : Program). all_covered (compiled_of typed entry l) covered;
+        covered = λ (typed : Program). all_covered (compiled_of typed entry l) covered.code;
       };
-      is = same ∙ ap propagated h.is;
+      is = same ∙ ap propagated (h.is covered.contents);
     }
 
 -- it can be begun

@@ -15,7 +15,7 @@ use Rattle.flat_code.specs.declared.function.FlatProgram.{FlatProgram}
 use Rattle.shadow_space.specs.Form.{EntryCode}
 use Rattle.metadata_plan.specs.Entries.{AreClosed, Entries, every}
 use Rattle.metadata_plan.specs.Laid.{body_of}
-use Rattle.metadata_relation.specs.Contents.{AreKept}
+use Rattle.metadata_relation.specs.Contents.{Contents}
 use Rattle.metadata_relation.specs.FunctionTypes.{HaveTypeKeys}
 use Rattle.metadata_relation.specs.InlineLists.{inline_lists}
 use Rattle.metadata_relation.specs.Blocks.{Expansion, block, prologue}
@@ -23,7 +23,7 @@ use Rattle.metadata_relation.specs.Homes.{homes}
 use Rattle.metadata_relation.specs.Laid.{entry_of, function_of, functions_from, program_of}
 use Rattle.instruction_selection.proofs.OneEntry.{by_one}
 use Rattle.program_expansion.specs.Expansions.{AreFunctionsOf, HasFunction, IsBodyOf, IsExpansionOf, IsFunctionOf}
-use Rattle.program_expansion.specs.Expansions.{Refuses, expansion_of, flat_function, types_by}
+use Rattle.program_expansion.specs.Expansions.{Refuses, expansion_of, expansion_with, flat_function, types_by}
 use Rattle.program_expansion.specs.Limits.{AreWithinLimits}
 use Rattle.program_expansion.specs.Tables.{AreTables, FunctionRefusal}
 use Rattle.program_expansion.specs.declared.error.ExpandError.{ExpandError}
@@ -36,20 +36,22 @@ program_by fs n = record { functions = fs; entry = n }
 module _ (read write : EntryCode) (m : MapSizes) (t : Tac) (types : ℕ → ℕ) where
   -- ---- blocks depend on the entries of their function alone
 
-  same_block : (entries : (function : ℕ) → Entries) (u : ℕ) (c : CodeFunction) (i : Instruction)
+  same_block : (entries : (function : ℕ) → Entries) (contents : (function : ℕ) → Contents) (u : ℕ) (c : CodeFunction)
+      (i : Instruction)
       → block (expansion_of read write m t types (λ v. entries u)) 0 c i
-      ≡ block (expansion_of read write m t types entries) u c i
-  same_block entries u c i =
+      ≡ block (expansion_with read write m t types entries contents) u c i
+  same_block entries contents u c i =
       by_one (inline_lists read write m) m t types types (λ v. entries u) (λ v n y. false) (λ f. refl) 0 c i
-      ∙ sym (by_one (inline_lists read write m) m t types types entries (λ v n y. false) (λ f. refl) u c i)
+      ∙ sym (by_one (inline_lists read write m) m t types types entries contents (λ f. refl) u c i)
 
-  same_body : (entries : (function : ℕ) → Entries) (u : ℕ) (c : CodeFunction)
+  same_body : (entries : (function : ℕ) → Entries) (contents : (function : ℕ) → Contents) (u : ℕ) (c : CodeFunction)
       → body_of (block (expansion_of read write m t types (λ v. entries u)) 0 c)
       (prologue (expansion_of read write m t types (λ v. entries u)) c) c
-      ≡ body_of (block (expansion_of read write m t types entries) u c)
-      (prologue (expansion_of read write m t types entries) c) c
-  same_body entries u c =
-      ap (λ put. body_of put (prologue (expansion_of read write m t types entries) c) c) (fun_ext (same_block entries u c))
+      ≡ body_of (block (expansion_with read write m t types entries contents) u c)
+      (prologue (expansion_with read write m t types entries contents) c) c
+  same_body entries contents u c =
+      ap (λ put. body_of put (prologue (expansion_with read write m t types entries contents) c) c)
+      (fun_ext (same_block entries contents u c))
 
   -- ---- one function more
 
@@ -142,26 +144,33 @@ module _ (read write : EntryCode) (m : MapSizes) (t : Tac) (types : ℕ → ℕ)
     fits : (u : ℕ) (c : CodeFunction) → slice_get t.functions u ≡ Some c → Fits u c (entries_of u)
     fits u c e = fits_by u (slice_get t.functions u) refl c e
 
-    abbrev whole : Expansion
-    whole = expansion_of read write m t types entries_of
+    module _ (contents : (function : ℕ) → Contents) where
+      abbrev whole : Expansion
+      whole = expansion_with read write m t types entries_of contents
 
-    listed : (u : ℕ) (c : CodeFunction) → slice_get t.functions u ≡ Some c
-        → slice_get list u ≡ Some (function_of whole u c (homes c))
-    listed u c e =
-        let h = fits u c e in
-        h.there ∙ ap Some (h.is ∙ ap (λ body. flat_function t c body) (same_body entries_of u c))
+      listed : (u : ℕ) (c : CodeFunction) → slice_get t.functions u ≡ Some c
+          → slice_get list u ≡ Some (function_of whole u c (homes c))
+      listed u c e =
+          let h = fits u c e in
+          h.there ∙ ap Some (h.is ∙ ap (λ body. flat_function t c body) (same_body entries_of contents u c))
 
-    all_listed : (cs : List CodeFunction) (fs : List FlatFunction) (k : ℕ) → length fs ≡ length cs
-        → ((u j : ℕ) (c : CodeFunction) → j ≡ k + u → slice_get cs u ≡ Some c
-        → slice_get fs u ≡ Some (function_of whole j c (homes c))) → fs ≡ functions_from whole homes k cs
-    all_listed [] [] k e h = refl
-    all_listed [] (f ∷ fs) k e h = absurd (omega (arith, e))
-    all_listed (c ∷ cs) [] k e h = absurd (omega (arith, e))
-    all_listed (c ∷ cs) (f ∷ fs) k e h =
-        let first : f ≡ function_of whole k c (homes c) = same_Some _ _ (h 0 k c (omega arith) refl) in
-        let rest : fs ≡ functions_from whole homes (suc k) cs =
-        all_listed cs fs (suc k) (omega (arith, e)) (λ u j d at there. h (suc u) j d (omega (arith, at)) there) in
-        ap (λ g. g ∷ fs) first ∙ ap (λ gs. function_of whole k c (homes c) ∷ gs) rest
+      all_listed : (cs : List CodeFunction) (fs : List FlatFunction) (k : ℕ) → length fs ≡ length cs
+          → ((u j : ℕ) (c : CodeFunction) → j ≡ k + u → slice_get cs u ≡ Some c
+          → slice_get fs u ≡ Some (function_of whole j c (homes c))) → fs ≡ functions_from whole homes k cs
+      all_listed [] [] k e h = refl
+      all_listed [] (f ∷ fs) k e h = absurd (omega (arith, e))
+      all_listed (c ∷ cs) [] k e h = absurd (omega (arith, e))
+      all_listed (c ∷ cs) (f ∷ fs) k e h =
+          let first : f ≡ function_of whole k c (homes c) = same_Some _ _ (h 0 k c (omega arith) refl) in
+          let rest : fs ≡ functions_from whole homes (suc k) cs =
+          all_listed cs fs (suc k) (omega (arith, e)) (λ u j d at there. h (suc u) j d (omega (arith, at)) there) in
+          ap (λ g. g ∷ fs) first ∙ ap (λ gs. function_of whole k c (homes c) ∷ gs) rest
+
+      whole_list : list ≡ functions_from whole homes 0 t.functions
+      whole_list =
+          all_listed t.functions list 0 all.size
+          (λ u j c at there. subst (λ k. slice_get list u ≡ Some (function_of whole k c (homes c)))
+          (let back : u ≡ j = omega (arith, at) in back) (listed u c there))
 
     pub whole_program : (runtime : List FlatFunction) (p : FlatProgram) → HaveTypeKeys t.functions types
         → ((f : ℕ) → types f < 2 ^ 63) → AreWithinLimits t
@@ -173,20 +182,13 @@ module _ (read write : EntryCode) (m : MapSizes) (t : Tac) (types : ℕ → ℕ)
       keys = keys;
       low = low;
       closed = record { by = λ u c e. (fits u c e).closed };
-      kept = λ u c e. record {
-        kept = λ n x y i at leads other none. refl;
-        made = λ n x d a i at leads gives source none. refl;
-        words = λ n y i at takes. refl;
-        areas = λ n y none. refl;
-      };
       areas = record { each = λ u c e. (limits.functions u c e).areas };
-      is = made
+      is = λ contents. made
           ∙ ap (λ fs. record {
             functions = fs ++ (runtime ++ entry_of m t ∷ []);
             entry = length t.functions + length runtime;
           })
-          (all_listed t.functions list 0 all.size (λ u j c at there. subst (λ k. slice_get list u ≡ Some (function_of whole k c (homes c)))
-          (let back : u ≡ j = omega (arith, at) in back) (listed u c there)));
+          (whole_list contents);
     }
 
 -- ---- programs

@@ -9,7 +9,7 @@ use Rattle.flat_code.specs.declared.function.FlatFunction.{FlatFunction}
 use Rattle.flat_code.specs.declared.function.FlatProgram.{FlatProgram}
 use Rattle.shadow_space.specs.Form.{EntryCode}
 use Rattle.metadata_plan.specs.Entries.{AreAllClosed, AreClosed, Entries}
-use Rattle.metadata_relation.specs.Contents.{AreKept}
+use Rattle.metadata_relation.specs.Contents.{Contents}
 use Rattle.metadata_relation.specs.FunctionTypes.{HaveTypeKeys}
 use Rattle.metadata_relation.specs.InlineLists.{inline_lists}
 use Rattle.metadata_relation.specs.Structures.{HaveAreas}
@@ -26,17 +26,22 @@ use Rattle.program_expansion.specs.Limits.{AreWithinLimits}
 use Rattle.program_expansion.specs.declared.error.ExpandError.{ExpandError}
 use Rattle.program_expansion.specs.declared.error.ExpandError.TheVariants as error
 
--- No temporary has contents, since no function takes or gives a structure.
-abbrev pub expansion_of : (read write : EntryCode) → MapSizes → Tac → (types : ℕ → ℕ)
-    → (entries : (function : ℕ) → Entries) → Expansion
-expansion_of read write m t types entries = record {
+-- The expansion of a program, by the temporaries that may have contents: its code does not depend on these.
+abbrev pub expansion_with : (read write : EntryCode) → MapSizes → Tac → (types : ℕ → ℕ)
+    → (entries : (function : ℕ) → Entries) → (contents : (function : ℕ) → Contents) → Expansion
+expansion_with read write m t types entries contents = record {
   inline = inline_lists read write m;
   map = m;
   code = t;
   types = types;
   entries = entries;
-  contents = λ u n y. false;
+  contents = contents;
 }
+
+-- where none has
+abbrev pub expansion_of : (read write : EntryCode) → MapSizes → Tac → (types : ℕ → ℕ)
+    → (entries : (function : ℕ) → Entries) → Expansion
+expansion_of read write m t types entries = expansion_with read write m t types entries (λ u n y. false)
 
 -- what the keys of functions tell, by a list
 abbrev pub types_by : List ℕ → (function : ℕ) → ℕ
@@ -116,7 +121,7 @@ pub record AreAllFunctionsOf (read write : EntryCode) (map : MapSizes) (code : T
     pub low : (f : ℕ) → types f < 2 ^ 63
     pub functions : AreFunctionsOf read write map code types (length code.functions) list
 
--- the flat program is the expansion of a program, with entries that were found for it
+-- the flat program is the expansion of a program, with entries that were found for it, whatever may have contents
 pub record IsExpansionOf (read write : EntryCode) (map : MapSizes) (code : Tac) (runtime : List FlatFunction)
     (program : FlatProgram) : Type 0 where
   pub types : ℕ → ℕ
@@ -124,10 +129,9 @@ pub record IsExpansionOf (read write : EntryCode) (map : MapSizes) (code : Tac) 
   pub keys : HaveTypeKeys code.functions types
   pub low : (f : ℕ) → types f < 2 ^ 63
   pub closed : AreAllClosed code entries
-  pub kept : (u : ℕ) (c : CodeFunction) → slice_get code.functions u ≡ Some c
-      → AreKept code c ((expansion_of read write map code types entries).contents u)
   pub areas : HaveAreas code
-  pub is : program ≡ program_of (expansion_of read write map code types entries) homes runtime
+  pub is : (contents : (function : ℕ) → Contents)
+      → program ≡ program_of (expansion_with read write map code types entries contents) homes runtime
 
 -- a function has 2^31 instructions or more
 pub record HasLongFunction (read write : EntryCode) (map : MapSizes) (code : Tac) : Type 0 where

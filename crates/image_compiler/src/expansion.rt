@@ -65,7 +65,6 @@ fn of_generate(error: GenerateError) -> ExpansionError {
 }
 
 // The flat code of covered code, in which values are carried to where they are used.
-#[tactic(auto, using(crate::proofs::Expanded::expanded_flat, crate::proofs::Expanded::runtime_few))]
 fn flat_code<S: ShadowForm>(
     alloc: Global,
     map: &AddrMap,

@@ -11,6 +11,8 @@ use Rattle.c_tree.specs.declared.expression.OffsetForm.{OffsetForm}
 use Rattle.c_tree.specs.declared.expression.OffsetForm.TheVariants as form
 use Rattle.c_tree.specs.Kinds.{routine_signature}
 use Rattle.source_meaning.specs.Good.{plain_type}
+use Rattle.tac_ir.specs.declared.instruction.Mode.{Mode}
+use Rattle.tac_ir.specs.declared.instruction.Mode.TheVariants.{Named, Unchecked, Judged}
 use Rattle.tac_ir.specs.declared.instruction.Test.{Test}
 use Rattle.tac_ir.specs.declared.instruction.Test.TheVariants.{Spatial, Temporal}
 use Rattle.tac_ir.specs.declared.instruction.Instruction.{Instruction}
@@ -24,6 +26,7 @@ use Rattle.tac_ir.specs.declared.function.CodeFunction.{CodeFunction}
 use Rattle.tac_ir.specs.declared.function.Tac.{Tac}
 use Rattle.tac_ir.specs.Edges.{LeadsTo}
 use Rattle.tac_ir.specs.Meaning.{function_in}
+use Rattle.tac_ir.specs.Structures.{greatest_structure}
 use Rattle.metadata_plan.specs.Registers.{all_variables}
 
 -- the temporaries of a function that have entries at a node
@@ -109,6 +112,10 @@ abbrev pub is_structure : Kind → Bool
 is_structure (Structure n) = true
 is_structure _ = false
 
+abbrev pub is_scalar : Kind → Bool
+is_scalar (OfScalar k) = true
+is_scalar _ = false
+
 abbrev pub is_pointer_type : Option Scalar → Bool
 is_pointer_type (Some Pointer) = true
 is_pointer_type _ = false
@@ -158,11 +165,23 @@ abbrev pub reads_for : Test → Option Key → Bool
 reads_for test None = true
 reads_for test (Some key) = not (can_compare test key)
 
+-- a temporary has an area where some instruction puts a structure into it
+abbrev pub has_area : Tac → CodeFunction → (temporary : ℕ) → Bool
+has_area t c i = nat_le 1 (greatest_structure t c.code i)
+
+-- A scalar may be a member of contents, as of a result (C99 6.5.2.3 paragraph 3), where its temporary has an area: the
+-- entry tells it from a place. What is judged is always a place.
+abbrev pub may_read_part : Tac → CodeFunction → Mode → (temporary : ℕ) → Bool
+may_read_part t c Named a = has_area t c a
+may_read_part t c Unchecked a = false
+may_read_part t c Judged a = false
+
 -- Whether an instruction of a function reads a temporary as a pointer, with its entry. Any argument of `printf` may be a
 -- string, and any of a call through a pointer may be one.
 abbrev pub reads_entry : Tac → CodeFunction → Instruction → (temporary : ℕ) → Bool
 reads_entry t c (tac.SetPlain x a m) y = y == a && is_pointer_type (plain_type (all_variables c) x)
 reads_entry t c (tac.Take kind line d a m) y = y == a && is_structure kind
+reads_entry t c (tac.Read kind mode line key d a m) y = y == a && (is_scalar kind && may_read_part t c mode a)
 reads_entry t c (tac.Write kind mode line key d a b m) y = y == b && is_moved_with_entry kind
 reads_entry t c (tac.StorePart kind line x offset a m) y = y == a && is_moved_with_entry kind
 reads_entry t c (tac.Judge test size line key a m) y = y == a && reads_for test (key_in c key)

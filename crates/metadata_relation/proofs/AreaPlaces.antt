@@ -17,8 +17,9 @@ use Rattle.tac_ir.specs.declared.function.Tac.{Tac}
 use Rattle.tac_ir.specs.Meaning.{function_in}
 use Rattle.tac_ir.specs.Structures.{greatest_structure, result_of, result_of_type, structure_put, structures_below}
 use Rattle.lib_wrappers.specs.AreaRoutines.Areas.{area_bytes, IsAreaPlace}
+use Rattle.metadata_plan.specs.Entries.{has_area}
 use Rattle.metadata_relation.specs.Holding.{area_of}
-use Rattle.metadata_relation.specs.Structures.{has_area, HasAreas}
+use Rattle.metadata_relation.specs.Structures.{HasAreas}
 
 -- ---- how many bytes
 

@@ -42,6 +42,7 @@ use Rattle.flat_code.specs.Routines.Routine.{HasAt}
 use Rattle.flat_code.proofs.Routines.Objects.Changing.{live_is_made}
 use Rattle.flat_code.proofs.Routines.Steps.{has_back, has_front}
 use Rattle.runtime_functions.specs.Library.{held_from}
+use Rattle.metadata_plan.specs.Entries.{has_area}
 use Rattle.metadata_plan.specs.Expanded.{Forward, Leads}
 use Rattle.metadata_plan.specs.Registers.{most_temporaries}
 use Rattle.metadata_plan.proofs.Flat.{branch_passed_comes, branch_taken_comes, move_comes, operate_comes}
@@ -50,8 +51,7 @@ use Rattle.metadata_relation.specs.Holding.{area_of, IsHeldAt, IsHome, IsRvalueA
 use Rattle.metadata_relation.specs.Registers.{first_free, home_register, temporary_register}
 use Rattle.metadata_relation.specs.Stages.{Compiled, expansion_of, IsAt, map_of, names, views, world}
 use Rattle.metadata_relation.specs.Steps.{IsCompiled, is_settled}
-use Rattle.metadata_relation.specs.Structures.{assign_code, copy_code, copy_place, has_area, part_call_code}
-use Rattle.metadata_relation.specs.Structures.{put_area_place}
+use Rattle.metadata_relation.specs.Structures.{assign_code, copy_code, copy_place, part_call_code, put_area_place}
 use Rattle.metadata_relation.specs.Structures.{put_code}
 use Rattle.metadata_relation.proofs.Accesses.{found, keyed_opens, live_direct}
 use Rattle.metadata_relation.proofs.Acting.{acts_alone, acts_giving, behind_action, HasActed, Reached, reached_by}

@@ -48,11 +48,12 @@ use Rattle.runtime_functions.specs.declared.runtime.RuntimeFunction.TheVariants.
 use Rattle.runtime_functions.specs.Actions.{steps_of, work_of_call}
 use Rattle.runtime_functions.specs.Copying.{copying, copying_interface}
 use Rattle.runtime_functions.proofs.CopyCalls.{copy_served}
+use Rattle.metadata_plan.specs.Entries.{has_area}
 use Rattle.metadata_plan.specs.Expanded.{Leads}
 use Rattle.metadata_plan.specs.Registers.{most_temporaries}
 use Rattle.metadata_plan.proofs.Flat.{move_comes, operate_comes}
 use Rattle.metadata_relation.specs.Blocks.{move_value, part_address, runtime_number, write_structure_code}
-use Rattle.metadata_relation.specs.Structures.{copy_code, copy_place, has_area, put_code}
+use Rattle.metadata_relation.specs.Structures.{copy_code, copy_place, put_code}
 use Rattle.metadata_relation.specs.Holding.{IsHeldAt, IsHome}
 use Rattle.metadata_relation.specs.Registers.{first_free, home_register, temporary_register}
 use Rattle.metadata_relation.specs.Scopes.{context_at}

@@ -19,10 +19,10 @@ use Rattle.tac_ir.proofs.Fits.{act_fits}
 use Rattle.flat_code.specs.Memory.{Bytes}
 use Rattle.flat_code.specs.State as flat
 use Rattle.flat_code.specs.Words.{HasWords}
+use Rattle.metadata_plan.specs.Entries.{has_area}
 use Rattle.metadata_plan.specs.Registers.{all_variables}
 use Rattle.metadata_relation.specs.Blocks.{is_short}
 use Rattle.metadata_relation.specs.Contents.{is_right, takes_word}
-use Rattle.metadata_relation.specs.Structures.{has_area}
 use Rattle.metadata_relation.specs.Stages.{Compiled, map_of, expansion_of, IsAt, MatchesBy, Matches}
 use Rattle.metadata_relation.specs.Steps.{IsCompiled, covers, admits, is_few, is_part, is_scalar_type, is_settled}
 use Rattle.metadata_relation.specs.Steps.{is_update_by_word, IsCovered, ComesToMatch}
@@ -39,7 +39,8 @@ use Rattle.metadata_relation.proofs.Leaving.{leave_step}
 use Rattle.metadata_relation.proofs.CopiedStructures.{store_structure, write_structure}
 use Rattle.metadata_relation.proofs.StoredParts.{store_part}
 use Rattle.metadata_relation.proofs.StoredTexts.{store_text}
-use Rattle.metadata_relation.proofs.Reading.{read, read_at}
+use Rattle.metadata_relation.proofs.Reading.{read_at}
+use Rattle.metadata_relation.proofs.ReadParts.{read_scalar}
 use Rattle.metadata_relation.proofs.ReadStructures.{read_structure}
 use Rattle.metadata_relation.proofs.TakenStructures.{take_structure}
 use Rattle.metadata_relation.proofs.ZeroStructures.{zero_structure}
@@ -124,8 +125,7 @@ module _ (c : Compiled) (IsGood : Bytes → Type 0) (right : IsCompiled c IsGood
       → Does (tac.Read kind mode line key d a m)
   read_by (OfScalar k) mode line key d a m at e f =
       let i = tac.Read (OfScalar k) mode line key d a m in
-      read c IsGood right u n temps ws s v xs h words.0 k mode line key d a m e at (plain i a at (eq-eqb a a refl))
-      (fine i at)
+      read_scalar c IsGood right u n temps ws s v xs h words k mode line key d a m e at (fine i at)
   read_by Void mode line key d a m at e f =
       let i = tac.Read Void mode line key d a m in
       read_at c IsGood right u n temps ws s v xs h words.0 Void refl mode line key d a m e at

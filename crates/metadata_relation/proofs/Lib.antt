@@ -61,6 +61,7 @@ pub mod PrintParts
 pub mod PrintScans
 pub mod Printing
 pub mod Ranges
+pub mod ReadParts
 pub mod ReadStructures
 pub mod Reading
 pub mod Registers

@@ -2,7 +2,7 @@
 use Rattle.std.proofs.Common.{◌≡◌, ◌⊎◌, inl, ℕ, ◌+◌, ◌*◌, ◌%◌, ◌^◌, ◌<◌, ◌≤◌, Bool, true, false, List, length}
 use Rattle.std.proofs.Common.{Option, Some, None, refl, sym, ap, ◌∙◌, subst, arith, true≢false}
 use Rattle.std.specs.Prelude.{slice_get, nat_le}
-use Rattle.std.proofs.lemmas.Bool.{eqb-true}
+use Rattle.std.proofs.lemmas.Bool.{eqb-true, leb-true}
 use Rattle.obj_memory.specs.declared.value.Value.{Value}
 use Rattle.obj_memory.specs.Objects.{ObjectState, Objects}
 use Rattle.c_tree.specs.declared.expression.Kind.TheVariants.{Structure}
@@ -44,13 +44,15 @@ use Rattle.metadata_relation.proofs.Reading.{place_read}
 use Rattle.metadata_relation.proofs.Registers.{temporaries_apart}
 use Rattle.metadata_relation.proofs.Standing.{IsNode, leads_on, node, Result}
 
--- contents are read in place alone, whatever the access is of
-contents_admitted : (mode : Mode) → is_settled mode ≡ true → (size : ℕ) (value : Value) (from : ObjectState)
+-- contents are read in place alone, whatever the access is of, and they have all that is read
+pub contents_admitted : (mode : Mode) → is_settled mode ≡ true → (size : ℕ) (value : Value) (from : ObjectState)
     (objects : Objects) (next : Stage)
     → (admitted mode size (record { value = value; contents = Some from }) objects next ≡ Stuck → ⊥)
-    → admitted mode size (record { value = value; contents = Some from }) objects next ≡ next
+    → (admitted mode size (record { value = value; contents = Some from }) objects next ≡ next)
+    × (value.word + size ≤ from.size)
 contents_admitted Named e size value from objects next fine =
-    (only_true (nat_le (value.word + size) from.size) next fine).1
+    let t = only_true (nat_le (value.word + size) from.size) next fine in
+    (t.1, leb-true (value.word + size) from.size t.0)
 contents_admitted Unchecked e size value from objects next fine = cc
 contents_admitted Judged e size value from objects next fine = absurd (fine refl)
 
@@ -201,7 +203,7 @@ module _ (c : Compiled) (IsGood : Bytes → Type 0) (right : IsCompiled c IsGood
         let opened = keyed_opens keys key paid (temps a).value (admitted mode size q s.objects (Behind q)) fine in
         let admits = contents_admitted mode settled size (temps a).value from s.objects (Behind q)
         (λ stuck. fine (opened ∙ stuck)) in
-        subst Follows (sym (opened ∙ admits))
+        subst Follows (sym (opened ∙ admits.0))
         (part_read from held (eqb-true d a in_place) (may_have (c.layout.expansion.contents u next d) refl from is))
 
     pub read_structure : is_in_place (temps a).contents d a ≡ true

@@ -1,5 +1,5 @@
 -- Scalars that are read through the word of a temporary.
-use Rattle.std.proofs.Common.{◌≡◌, ◌≢◌, ◌⊎◌, inl, inr, ℕ, ◌+◌, ◌^◌, ◌<◌, ◌≤◌, Bool, true, false, List, [], ◌∷◌}
+use Rattle.std.proofs.Common.{◌≡◌, ◌≢◌, ◌⊎◌, inl, inr, ℕ, ◌+◌, ◌*◌, ◌^◌, ◌<◌, ◌≤◌, Bool, true, false, List, [], ◌∷◌}
 use Rattle.std.proofs.Common.{◌++◌, length, length-append, Option, Some, refl, sym, ap, ◌∙◌, subst, arith}
 use Rattle.std.proofs.Math.Nat.{mod-eq_of_lt}
 use Rattle.std.specs.Prelude.{slice_get}
@@ -52,7 +52,7 @@ use Rattle.lib_wrappers.specs.declared.accesses.held.HeldScalar.TheVariants.{Int
 use Rattle.lib_wrappers.specs.declared.accesses.held.HeldScalar.TheVariants.{Pointer as HeldPointer}
 use Rattle.lib_wrappers.specs.AccessRoutines.Accessing.{IsToAccess}
 use Rattle.runtime_functions.specs.Library.{held_from}
-use Rattle.metadata_plan.specs.Entries.{given, read_from}
+use Rattle.metadata_plan.specs.Entries.{given, may_read_part, read_from}
 use Rattle.metadata_plan.specs.Expanded.{Leads}
 use Rattle.metadata_plan.specs.Registers.{most_temporaries}
 use Rattle.metadata_plan.proofs.Flat.{move_comes}
@@ -63,7 +63,7 @@ use Rattle.metadata_relation.specs.Scopes.{context_at}
 use Rattle.metadata_relation.specs.Stages.{Compiled, expansion_of, IsAt, map_of, names, views, world}
 use Rattle.metadata_relation.specs.Steps.{IsCompiled, is_settled}
 use Rattle.metadata_relation.proofs.Accesses.{behind_read, found, keyed_opens, loaded}
-use Rattle.metadata_relation.proofs.Acting.{acts_giving, reached_by, reached_then}
+use Rattle.metadata_relation.proofs.Acting.{acts_giving, behind_action, HasActed, Reached, reached_next, reached_then}
 use Rattle.metadata_relation.proofs.Finishing.{acted_as, acted_then, ends_with, integer_cleared, nothing_done}
 use Rattle.metadata_relation.proofs.Finishing.{tagged_in}
 use Rattle.metadata_relation.proofs.Assigning.{assigned}
@@ -146,12 +146,25 @@ module _ (c : Compiled) (IsGood : Bytes → Type 0) (right : IsCompiled c IsGood
 
   -- ---- by what is read
 
+  -- where the load stands the run comes with no register changed
   module _ (i : Instruction) (nd : IsNode c u n h.code i) (d a next line work : ℕ) (p : Value)
       (held : IsHeldAt (world c h.keys s v) (c.layout.expansion.entries u n a) p (temporary_register h.code a) v.values)
       (gives : given i ≡ Some d) (leads : LeadsTo i next) (low : d < most_temporaries h.code.code)
-      (from : a < most_temporaries h.code.code) where
+      (from : a < most_temporaries h.code.code) (start before done : ℕ)
+      (come : Reached (map_of c) c.layout.program u (c.layout.address u n) v xs start (record v { work = done }) before)
+      (soon : before ≤ 2) where
     abbrev x : State
     x = spent work s
+
+    abbrev v0 : flat.State
+    v0 = record v { work = done }
+
+    begun : HasActed c IsGood right u n temps ws s v xs h (behind_action s s) h.keys (record v { work = done })
+    begun = acted_as c IsGood right u n temps ws s v xs h s h.keys v v.values done
+        (nothing_done c IsGood right u n temps ws s v xs h)
+
+    words_there : IsOfWords (record v { work = done })
+    words_there = assigned_words [] v done words
 
     -- where it goes on
     abbrev ReadsTo : (k : Scalar) → IsDirect s.objects p (scalar_size k) → Type 0
@@ -164,8 +177,8 @@ module _ (c : Compiled) (IsGood : Bytes → Type 0) (right : IsCompiled c IsGood
     into_ne y (inr above) e = absurd (omega arith)
 
     reads_integer : (t : IntType) (direct : IsDirect s.objects p (scalar_size (Integer t)))
-        → HasAt body pc (load_code c.layout.expansion.inline (Integer t) (E next d) (T d) (T a) free)
-        → Leads body (pc + length (load_code c.layout.expansion.inline (Integer t) (E next d) (T d) (T a) free))
+        → HasAt body start (load_code c.layout.expansion.inline (Integer t) (E next d) (T d) (T a) free)
+        → Leads body (start + length (load_code c.layout.expansion.inline (Integer t) (E next d) (T d) (T a) free))
         (c.layout.address u next)
         → 1 ≤ work → ReadsTo (Integer t) direct
     reads_integer t direct has on some =
@@ -180,29 +193,31 @@ module _ (c : Compiled) (IsGood : Bytes → Type 0) (right : IsCompiled c IsGood
         let z = behind_read (size_of t) p x in
         let ran = action_passes c IsGood right u h.code h.there xs (IsToAccess into)
         (λ vs. load (Integer t) false (argument 0 vs) line) (Word (T a) ∷ []) (Word (T d)) free 1 list
-        (right.inline.load (T a) into free under tt line) (right.inline.computes.load (T a) into free under tt) pc v
-        (record { has = has_front body pc list rest has; words = words }) h.keys x (p ∷ [])
-        (for_worked (views c) h.keys IsGood s (s.work + work) v h.stands.for) (held.word, tt) direct value z
+        (right.inline.load (T a) into free under tt line) (right.inline.computes.load (T a) into free under tt) start v0
+        (record { has = has_front body start list rest has; words = words_there }) h.keys x (p ∷ [])
+        (for_worked (views c) h.keys IsGood s (s.work + work) v0 begun.stands.for) (held.word, tt) direct value z
         (loaded (Integer t) p line x direct) in
         let y = ran.after in
         let l = ran.holds in
-        let acted = acted_then c IsGood right u n temps ws s v xs h (Word (T d)) free x.work value s z h.keys v y
-        (nothing_done c IsGood right u n temps ws s v xs h) l (leaves_read work (Integer t) p direct held.sound)
-        h.steady.keys in
+        let acted = acted_then c IsGood right u n temps ws s v xs h (Word (T d)) free x.work value s z h.keys v0 y begun l
+        (leaves_read work (Integer t) p direct held.sound) h.steady.keys in
         let placed = integer_cleared (world c l.keys z y) b value (T d) y.values (read_untagged t _ s.objects) l.given in
-        let len : pc + length (list ++ rest) ≡ pc + length list + length rest = omega (arith, length-append list rest) in
-        let e = ends_with c IsGood right u n temps ws s v xs h (pc + length list) 2 4 next y rest ran.reached
-        (untagged_few b (T d)) (has_back body pc list rest has)
+        let len : start + length (list ++ rest) ≡ start + length list + length rest =
+        omega (arith, length-append list rest) in
+        let all = reached_then (map_of c) c.layout.program u xs pc start (start + length list) v v0 y before 2 come
+        ran.reached in
+        let e = ends_with c IsGood right u n temps ws s v xs h (start + length list) (before + 2) 4 next y rest all
+        (untagged_few b (T d)) (has_back body start list rest has)
         (subst (λ q. Leads body q (c.layout.address u next)) len on) in
         acts_giving c IsGood right u n temps ws s v xs h i nd d next value z l.keys
-        (record y { values = assigned rest y.values; work = e.0 }) 12 gives leads low e.1
+        (record y { values = assigned rest y.values; work = e.0 }) (before + 2 + 2 * 4 + 2) gives leads low e.1
         (acted_as c IsGood right u n temps ws s v xs h z l.keys y (assigned rest y.values) e.0 acted)
         (λ q lt out. placed.others q out ∙ l.others q lt (into_ne q out, tt)) placed.held (omega arith)
 
     -- a pointer of which no entry is kept
     reads_word : (direct : IsDirect s.objects p 8) → E next d ≡ false
-        → HasAt body pc (load_code c.layout.expansion.inline Pointer false (T d) (T a) free)
-        → Leads body (pc + length (load_code c.layout.expansion.inline Pointer false (T d) (T a) free))
+        → HasAt body start (load_code c.layout.expansion.inline Pointer false (T d) (T a) free)
+        → Leads body (start + length (load_code c.layout.expansion.inline Pointer false (T d) (T a) free))
         (c.layout.address u next)
         → 1 ≤ work → ReadsTo Pointer direct
     reads_word direct none has on some =
@@ -215,20 +230,22 @@ module _ (c : Compiled) (IsGood : Bytes → Type 0) (right : IsCompiled c IsGood
         let z = behind_read 8 p x in
         let ran = action_passes c IsGood right u h.code h.there xs (IsToAccess into)
         (λ vs. load (Integer UnsignedLong) false (argument 0 vs) line) (Word (T a) ∷ []) (Word (T d)) free 1 list
-        (right.inline.load (T a) into free under tt line) (right.inline.computes.load (T a) into free under tt) pc v
-        (record { has = has; words = words }) h.keys x (p ∷ [])
-        (for_worked (views c) h.keys IsGood s (s.work + work) v h.stands.for) (held.word, tt) (word_direct s.objects p direct)
+        (right.inline.load (T a) into free under tt line) (right.inline.computes.load (T a) into free under tt) start v0
+        (record { has = has; words = words_there }) h.keys x (p ∷ [])
+        (for_worked (views c) h.keys IsGood s (s.work + work) v0 begun.stands.for) (held.word, tt)
+        (word_direct s.objects p direct)
         (integer value.word) z (word_loaded (views c).functions p line x direct h.stands.for.objects.sound) in
         let y = ran.after in
         let l = ran.holds in
-        let acted = acted_then c IsGood right u n temps ws s v xs h (Word (T d)) free x.work (integer value.word) s z h.keys v y
-        (nothing_done c IsGood right u n temps ws s v xs h) l (leaves_read work Pointer p direct held.sound)
-        h.steady.keys in
-        let e = ends_with c IsGood right u n temps ws s v xs h (pc + length list) 2 0 next y [] ran.reached
+        let acted = acted_then c IsGood right u n temps ws s v xs h (Word (T d)) free x.work (integer value.word) s z h.keys
+        v0 y begun l (leaves_read work Pointer p direct held.sound) h.steady.keys in
+        let all = reached_then (map_of c) c.layout.program u xs pc start (start + length list) v v0 y before 2 come
+        ran.reached in
+        let e = ends_with c IsGood right u n temps ws s v xs h (start + length list) (before + 2) 0 next y [] all
         (record { assign = refl; few = omega arith }) tt
         (subst (λ q. Leads body q (c.layout.address u next)) (omega arith) on) in
         acts_giving c IsGood right u n temps ws s v xs h i nd d next value z l.keys
-        (record y { values = y.values; work = e.0 }) 4 gives leads low e.1
+        (record y { values = y.values; work = e.0 }) (before + 2 + 2 * 0 + 2) gives leads low e.1
         (acted_as c IsGood right u n temps ws s v xs h z l.keys y y.values e.0 acted)
         (λ q lt out. l.others q lt (into_ne q out, tt))
         (record {
@@ -240,8 +257,8 @@ module _ (c : Compiled) (IsGood : Bytes → Type 0) (right : IsCompiled c IsGood
 
     -- a pointer with its entry, through an address that is moved away first
     reads_pointer : (direct : IsDirect s.objects p 8) → E next d ≡ true
-        → HasAt body pc (load_code c.layout.expansion.inline Pointer true (T d) (T a) free)
-        → Leads body (pc + length (load_code c.layout.expansion.inline Pointer true (T d) (T a) free))
+        → HasAt body start (load_code c.layout.expansion.inline Pointer true (T d) (T a) free)
+        → Leads body (start + length (load_code c.layout.expansion.inline Pointer true (T d) (T a) free))
         (c.layout.address u next)
         → 3 ≤ work → ReadsTo Pointer direct
     reads_pointer direct kept has on some =
@@ -254,29 +271,30 @@ module _ (c : Compiled) (IsGood : Bytes → Type 0) (right : IsCompiled c IsGood
         (none_of free (T d) (inr (omega arith)), distinct (T d)) in
         let value = read_value Pointer (place_in s.objects direct.object p.word) s.objects in
         let z = behind_read 8 p x in
-        let first = move_comes (map_of c) c.layout.program u pc v xs free (T a) has.0 in
-        let v1 : flat.State = record v { values = put v.values free (v.values (T a)); work = v.work + first.work } in
-        let begun = acted_as c IsGood right u n temps ws s v xs h s h.keys v v1.values v1.work
+        let first = move_comes (map_of c) c.layout.program u start v0 xs free (T a) has.0 in
+        let v1 : flat.State = record v { values = put v.values free (v.values (T a)); work = done + first.work } in
+        let moved = acted_as c IsGood right u n temps ws s v xs h s h.keys v v1.values v1.work
         (nothing_done c IsGood right u n temps ws s v xs h) in
         let ran = action_passes c IsGood right u h.code h.there xs (IsToAccess into)
         (λ vs. load Pointer false (argument 0 vs) line) (Word free ∷ []) (InPointer (held_from (T d))) (free + 1) 21 list
         (right.inline.load free into (free + 1) under apart line)
-        (right.inline.computes.load free into (free + 1) under apart) (pc + 1) v1
+        (right.inline.computes.load free into (free + 1) under apart) (start + 1) v1
         (record { has = has.1; words = assigned_words (Move free (T a) ∷ []) v v1.work words }) h.keys x (p ∷ [])
-        (for_worked (views c) h.keys IsGood s (s.work + work) v1 begun.stands.for)
+        (for_worked (views c) h.keys IsGood s (s.work + work) v1 moved.stands.for)
         (put_same v.values free (v.values (T a)) ∙ held.word, tt) direct value z (loaded Pointer p line x direct) in
         let y = ran.after in
         let l = ran.holds in
         let acted = acted_then c IsGood right u n temps ws s v xs h (InPointer (held_from (T d))) (free + 1) x.work value s z
-        h.keys v1 y begun l (leaves_read work Pointer p direct held.sound) h.steady.keys in
-        let all = reached_then (map_of c) c.layout.program u xs pc (pc + 1) (pc + 1 + length list) v v1 y 2 42
-        (reached_by (map_of c) c.layout.program u xs pc (pc + 1) v
-        (record v { values = put v.values free (v.values (T a)) }) 2 first) ran.reached in
-        let e = ends_with c IsGood right u n temps ws s v xs h (pc + 1 + length list) 44 0 next y [] all
+        h.keys v1 y moved l (leaves_read work Pointer p direct held.sound) h.steady.keys in
+        let one = reached_next (map_of c) c.layout.program u xs pc start (start + 1) v v0
+        (record v0 { values = put v.values free (v.values (T a)) }) before 2 come first in
+        let all = reached_then (map_of c) c.layout.program u xs pc (start + 1) (start + 1 + length list) v v1 y (before + 2)
+        42 one ran.reached in
+        let e = ends_with c IsGood right u n temps ws s v xs h (start + 1 + length list) (before + 2 + 42) 0 next y [] all
         (record { assign = refl; few = omega arith }) tt
         (subst (λ q. Leads body q (c.layout.address u next)) (omega arith) on) in
         acts_giving c IsGood right u n temps ws s v xs h i nd d next value z l.keys
-        (record y { values = y.values; work = e.0 }) 46 gives leads low e.1
+        (record y { values = y.values; work = e.0 }) (before + 2 + 42 + 2 * 0 + 2) gives leads low e.1
         (acted_as c IsGood right u n temps ws s v xs h z l.keys y y.values e.0 acted)
         (λ q lt out. l.others q (omega arith) (none_of q (T d) out)
         ∙ put_other v.values free (v.values (T a)) q (λ same. omega arith))
@@ -288,16 +306,16 @@ module _ (c : Compiled) (IsGood : Bytes → Type 0) (right : IsCompiled c IsGood
         (omega arith)
 
     pub reads : (k : Scalar) (direct : IsDirect s.objects p (scalar_size k))
-        → HasAt body pc (load_code c.layout.expansion.inline k (E next d) (T d) (T a) free)
-        → Leads body (pc + length (load_code c.layout.expansion.inline k (E next d) (T d) (T a) free))
+        → HasAt body start (load_code c.layout.expansion.inline k (E next d) (T d) (T a) free)
+        → Leads body (start + length (load_code c.layout.expansion.inline k (E next d) (T d) (T a) free))
         (c.layout.address u next)
         → 1 + entries_of (OfScalar k) ≤ work → ReadsTo k direct
     reads (Integer t) direct has on some = reads_integer t direct has on (omega arith)
     reads Pointer direct has on some = by (E next d) refl has on
       where
         by : (b : Bool) → c.layout.expansion.entries u next d ≡ b
-            → HasAt body pc (load_code c.layout.expansion.inline Pointer b (T d) (T a) free)
-            → Leads body (pc + length (load_code c.layout.expansion.inline Pointer b (T d) (T a) free))
+            → HasAt body start (load_code c.layout.expansion.inline Pointer b (T d) (T a) free)
+            → Leads body (start + length (load_code c.layout.expansion.inline Pointer b (T d) (T a) free))
             (c.layout.address u next)
             → ReadsTo Pointer direct
         by true e has on = reads_pointer direct e has on (omega arith)
@@ -306,8 +324,7 @@ module _ (c : Compiled) (IsGood : Bytes → Type 0) (right : IsCompiled c IsGood
   -- ---- the step
 
   module _ (k : Scalar) (mode : Mode) (line : ℕ) (key : Option ℕ) (d a next : ℕ) (settled : is_settled mode ≡ true)
-      (at : slice_get h.code.code n ≡ Some (tac.Read (OfScalar k) mode line key d a next))
-      (plain : c.layout.expansion.contents u n a ≡ false) where
+      (at : slice_get h.code.code n ≡ Some (tac.Read (OfScalar k) mode line key d a next)) where
     abbrev label : Instruction
     label = tac.Read (OfScalar k) mode line key d a next
 
@@ -324,10 +341,31 @@ module _ (c : Compiled) (IsGood : Bytes → Type 0) (right : IsCompiled c IsGood
     Effect q = keyed (keys_of (code_in c.layout.expansion.code u)) key paid q.value
         (admitted mode (scalar_size k) q s.objects (Behind q))
 
-    value_read : (p : Value)
+    -- what is known of the access of a place
+    pub place_found : (p : Value)
         → IsHeldAt (world c h.keys s v) (c.layout.expansion.entries u n a) p (temporary_register h.code a) v.values
+        → (Effect (rvalue p) ≡ Stuck → ⊥) → IsDirect s.objects p (scalar_size k)
+    place_found p held fine =
+        let keys = keys_of (code_in c.layout.expansion.code u) in
+        let opened = keyed_opens keys key paid p (admitted mode (scalar_size k) (rvalue p) s.objects (Behind (rvalue p)))
+        fine in
+        (found mode settled (views c).functions (scalar_size k) p s.objects (Behind (rvalue p)) held.sound
+        (λ stuck. fine (opened ∙ stuck))).direct
+
+    -- a scalar is loaded from its place, by a list that stands where the run comes with no register changed
+    pub value_read : (p : Value)
+        → IsHeldAt (world c h.keys s v) (c.layout.expansion.entries u n a) p (temporary_register h.code a) v.values
+        → (start before done : ℕ)
+        → Reached (map_of c) c.layout.program u (c.layout.address u n) v xs start (record v { work = done }) before
+        → before ≤ 2
+        → HasAt (body_of (function_in c.layout.program u)) start
+        (load_code c.layout.expansion.inline k (c.layout.expansion.entries u next d) (temporary_register h.code d)
+        (temporary_register h.code a) (first_free h.code))
+        → Leads (body_of (function_in c.layout.program u)) (start + length
+        (load_code c.layout.expansion.inline k (c.layout.expansion.entries u next d) (temporary_register h.code d)
+        (temporary_register h.code a) (first_free h.code))) (c.layout.address u next)
         → (Effect (rvalue p) ≡ Stuck → ⊥) → Follows (Effect (rvalue p))
-    value_read p held fine =
+    value_read p held start before done come soon has leads fine =
         let keys = keys_of (code_in c.layout.expansion.code u) in
         let opened = keyed_opens keys key paid p (admitted mode (scalar_size k) (rvalue p) s.objects (Behind (rvalue p)))
         fine in
@@ -337,14 +375,7 @@ module _ (c : Compiled) (IsGood : Bytes → Type 0) (right : IsCompiled c IsGood
         ∙ ap (λ o. on o (λ w. give w)) (loaded k p line paid f.direct) in
         subst Follows (sym (opened ∙ f.opens ∙ ap (λ o. came o (given_in u next temps d ws)) read_is))
         (reads label nd d a next line (cost label) p held refl (inl refl) (omega (arith, nd.temporaries_low))
-        (omega (arith, nd.temporaries_low)) k f.direct nd.put.has nd.put.leads (omega arith))
-
-    pub read : (effect c.setting (expansion_of c).code label u temps ws paid ≡ Stuck → ⊥)
-        → Follows (effect c.setting (expansion_of c).code label u temps ws paid)
-    read fine =
-        let operand = plain_operand a (omega (arith, nd.temporaries_low)) plain in
-        subst (λ q. (Effect q ≡ Stuck → ⊥) → Follows (Effect q)) (sym operand.0)
-        (value_read (temps a).value operand.1) fine
+        (omega (arith, nd.temporaries_low)) start before done come soon k f.direct has leads (omega arith))
 
   -- ---- places
 
@@ -353,23 +384,23 @@ module _ (c : Compiled) (IsGood : Bytes → Type 0) (right : IsCompiled c IsGood
   is_no_scalar (OfScalar k) = false
   is_no_scalar kind = true
 
-  place_found : (kind : Kind) → is_no_scalar kind ≡ true → (mode : Mode) (p : Value) (line : ℕ) (z : State)
+  place_given : (kind : Kind) → is_no_scalar kind ≡ true → (mode : Mode) (p : Value) (line : ℕ) (z : State)
       (direct : IsDirect z.objects p (size_of_kind kind))
       → located (is_through mode) (size_of_kind kind) p line z ≡ located false (size_of_kind kind) p line z
       → read_rvalue kind (is_through mode) (rvalue p) line z ≡ Gives (rvalue p) z
-  place_found Void e mode p line z direct same = refl
-  place_found (OfScalar k) e mode p line z direct same = cc
-  place_found (Structure size) e mode p line z direct same =
+  place_given Void e mode p line z direct same = refl
+  place_given (OfScalar k) e mode p line z direct same = cc
+  place_given (Structure size) e mode p line z direct same =
       ap (λ o. on (on o (λ _ y. Gives p y)) (λ w. give w)) same
       ∙ ap (λ w. on (on (place_or_stop w line z) (λ _ y. Gives p y)) (λ w. give w)) (direct_named z.objects p size direct)
-  place_found (Array size) e mode p line z direct same = refl
+  place_given (Array size) e mode p line z direct same = refl
 
-  moves_place : (i : Instruction) (kind : Kind) → is_no_scalar kind ≡ true → (b : Bool) (d a : ℕ)
-      → read_code c.layout.expansion.inline kind b (T d) (T a) free ≡ move_value b (T d) (T a)
-  moves_place i Void e b d a = refl
-  moves_place i (OfScalar k) e b d a = cc
-  moves_place i (Structure size) e b d a = refl
-  moves_place i (Array size) e b d a = refl
+  moves_place : (q : Bool) (kind : Kind) → is_no_scalar kind ≡ true → (b : Bool) (d a : ℕ)
+      → read_code c.layout.expansion.inline q kind b (T d) (T a) free ≡ move_value b (T d) (T a)
+  moves_place q Void e b d a = refl
+  moves_place q (OfScalar k) e b d a = cc
+  moves_place q (Structure size) e b d a = refl
+  moves_place q (Array size) e b d a = refl
 
   source_is : (kind : Kind) → is_no_scalar kind ≡ true → (a : ℕ) → read_from kind a ≡ Some a
   source_is Void e a = refl
@@ -405,8 +436,8 @@ module _ (c : Compiled) (IsGood : Bytes → Type 0) (right : IsCompiled c IsGood
         (admitted mode (size_of_kind kind) (rvalue p) s.objects (PlaceBehind (rvalue p))) fine in
         let f = found mode settled (views c).functions (size_of_kind kind) p s.objects (PlaceBehind (rvalue p)) held.sound
         (λ stuck. fine (opened ∙ stuck)) in
-        let read_is = place_found kind other mode p line place_paid f.direct (f.same line place_paid refl) in
-        let list = moves_place place_label kind other (E next d) d a in
+        let read_is = place_given kind other mode p line place_paid f.direct (f.same line place_paid refl) in
+        let list = moves_place (may_read_part c.layout.expansion.code h.code mode a) kind other (E next d) d a in
         subst Follows (sym (opened ∙ f.opens ∙ ap (λ o. came o (given_in u next temps d ws)) read_is))
         (moves_value c IsGood right u n temps ws s v xs h words place_label place_node d next (T a) (E n a) p
         place_paid.work refl (inl refl) (omega (arith, place_node.temporaries_low)) held

@@ -71,15 +71,15 @@ use Rattle.runtime_functions.specs.declared.status.ReturnStatus.TheVariants.{Key
 use Rattle.runtime_functions.specs.Library.{Passed, NoValue, OneWord, WithEntry, register_count, held_from, signature}
 use Rattle.runtime_functions.specs.Status.{status_number, ending_at}
 use Rattle.metadata_plan.specs.Blocks.{call_tests}
-use Rattle.metadata_plan.specs.Entries.{Entries, pointer_of, key_in, can_compare}
+use Rattle.metadata_plan.specs.Entries.{Entries, pointer_of, key_in, can_compare, has_area, may_read_part}
 use Rattle.metadata_plan.specs.Registers.{all_variables}
 use Rattle.metadata_plan.specs.Operators.{OperatorCode}
 use Rattle.metadata_relation.specs.Contents.{Contents}
 use Rattle.metadata_relation.specs.FunctionTypes.{first_of_type}
 use Rattle.metadata_relation.specs.InlineCode.{InlineCode}
 use Rattle.metadata_relation.specs.Printing.{print_code, scan_statuses}
-use Rattle.metadata_relation.specs.Structures.{await_code, has_area, put_code, receive_code, store_structure_code}
-use Rattle.metadata_relation.specs.Structures.{take_structure_code, zero_structure_code}
+use Rattle.metadata_relation.specs.Structures.{await_code, place_or_part, put_code, receive_code, scalar_part_code}
+use Rattle.metadata_relation.specs.Structures.{store_structure_code, take_structure_code, zero_structure_code}
 use Rattle.metadata_relation.specs.Registers.{passed_as, parameters_end, result_words, variable_words}
 use Rattle.metadata_relation.specs.Registers.{total}
 use Rattle.metadata_relation.specs.Registers.{variable_register, home_register, home_entry, lock_register, top_register}
@@ -259,9 +259,10 @@ load_code i (Integer t) b d a s = i.load a (HeldInteger t d) s ++ untagged b d
 load_code i Pointer false d a s = i.load a (HeldInteger UnsignedLong d) s
 load_code i Pointer true d a s = Move s a ∷ i.load s (HeldPointer (held_from d)) (s + 1)
 
-abbrev pub read_code : InlineCode → Kind → (with_entry : Bool) → (into from scratch : ℕ) → List FlatInstruction
-read_code i (OfScalar k) b d a s = load_code i k b d a s
-read_code i kind b d a s = move_value b d a
+abbrev pub read_code : InlineCode → (may_be_part : Bool) → Kind → (with_entry : Bool) → (into from scratch : ℕ)
+    → List FlatInstruction
+read_code i q (OfScalar k) b d a s = place_or_part q a (scalar_part_code k b d a s) (load_code i k b d a s)
+read_code i q kind b d a s = move_value b d a
 
 -- what an assignment gives is the value that is stored
 abbrev pub write_code : InlineCode → Scalar → (with_entry : Bool) → (into pointer value scratch : ℕ)
@@ -689,7 +690,8 @@ block e u c (tac.Take (Structure size) line d a m) =
     take_structure_code e.inline.operators e.map e.code c (runtime_number e.code) (e.entries u m d) size d
     (temporary_register c d) (temporary_register c a) (first_free c)
 block e u c (tac.Read kind mode line key d a m) =
-    read_code e.inline kind (e.entries u m d) (temporary_register c d) (temporary_register c a) (first_free c)
+    read_code e.inline (may_read_part e.code c mode a) kind (e.entries u m d) (temporary_register c d)
+    (temporary_register c a) (first_free c)
 block e u c (tac.Write (OfScalar k) mode line key d a b m) =
     write_code e.inline k (e.entries u m d) (temporary_register c d) (temporary_register c a) (temporary_register c b)
     (first_free c)

@@ -22,10 +22,11 @@ abbrev pub is_right : RightOperand → (temporary : ℕ) → Bool
 is_right (Temporary b) y = y == b
 is_right One y = false
 
--- what is read but a structure, whose place or contents the value itself is
+-- what is read but a scalar, which contents may have as a member, and a structure, whose place or contents the value
+-- itself is
 abbrev pub is_read_there : Kind → Bool
 is_read_there Void = true
-is_read_there (OfScalar k) = true
+is_read_there (OfScalar k) = false
 is_read_there (Structure n) = false
 is_read_there (Array n) = true
 

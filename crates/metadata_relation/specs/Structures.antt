@@ -1,19 +1,26 @@
 -- Structures and unions by value (C99 6.5.2.2 paragraph 4, 6.5.16.1, 6.8.6.4 paragraph 3): one that is assigned from its
 -- place is moved by a function of the runtime, and so are contents that lie in the area of a temporary.
 use Rattle.std.specs.Prelude.{◌≡◌, ℕ, ◌+◌, ◌-◌, ◌*◌, ◌%◌, ◌≤◌, Bool, true, false, List, [], ◌∷◌, ◌++◌, Some, slice_get}
-use Rattle.std.specs.Prelude.{length, nat_le}
+use Rattle.std.specs.Prelude.{length}
 use Rattle.addr_map.specs.declared.region.Region.TheVariants.{StructureValues}
 use Rattle.addr_map.specs.Places.{MapSizes, region_start}
+use Rattle.obj_memory.specs.declared.int_type.IntType.TheVariants.{UnsignedLong}
+use Rattle.obj_memory.specs.declared.value.Scalar.{Scalar}
+use Rattle.obj_memory.specs.declared.value.Scalar.TheVariants.{Integer, Pointer}
 use Rattle.rv_isa.specs.declared.instruction.BranchOp.TheVariants.{Bne}
 use Rattle.rv_isa.specs.declared.instruction.RegOp.TheVariants.{Add}
 use Rattle.tac_ir.specs.declared.function.CodeFunction.{CodeFunction}
 use Rattle.tac_ir.specs.declared.function.Tac.{Tac}
-use Rattle.tac_ir.specs.Structures.{greatest_structure, structures_below}
+use Rattle.tac_ir.specs.Structures.{structures_below}
 use Rattle.flat_code.specs.declared.instruction.RightOperand.TheVariants.{Number, Register}
 use Rattle.flat_code.specs.declared.instruction.FlatInstruction.{FlatInstruction}
 use Rattle.flat_code.specs.declared.instruction.FlatInstruction.TheVariants.{Branch, Call, Charged, Constant}
 use Rattle.flat_code.specs.declared.instruction.FlatInstruction.TheVariants.{JumpForward, Move, Operate}
+use Rattle.lib_wrappers.specs.declared.accesses.held.HeldScalar.TheVariants.{Integer as HeldInteger}
+use Rattle.lib_wrappers.specs.declared.accesses.held.HeldScalar.TheVariants.{Pointer as HeldPointer}
+use Rattle.lib_wrappers.specs.AccessRoutines.Accessing.{no_entry}
 use Rattle.lib_wrappers.specs.AreaRoutines.Areas.{whole_words}
+use Rattle.lib_wrappers.specs.AreaRoutines.Reading.{read_part_code}
 use Rattle.runtime_functions.specs.Library.{held_from}
 use Rattle.metadata_plan.specs.Operators.{OperatorCode}
 
@@ -52,10 +59,6 @@ pub record HasAreas (t : Tac) (c : CodeFunction) : Type 0 where
 -- so is each function of a program
 pub record HaveAreas (t : Tac) : Type 0 where
   pub each : (u : ℕ) (c : CodeFunction) → slice_get t.functions u ≡ Some c → HasAreas t c
-
--- a temporary has an area where some instruction puts a structure into it
-abbrev pub has_area : Tac → CodeFunction → (temporary : ℕ) → Bool
-has_area t c i = nat_le 1 (greatest_structure t c.code i)
 
 -- where the area of a temporary begins is put into a register: areas lie as the calls are charged, those of a function
 -- from where those of the functions that wait end
@@ -168,6 +171,27 @@ abbrev pub put_code : OperatorCode → (number : (place : ℕ) → ℕ) → (has
     → List FlatInstruction
 put_code o number false a size s = copy_code o number a size s
 put_code o number true a size s = assign_code o number size a s
+
+-- ---- members of contents (C99 6.5.2.3 paragraph 3)
+
+-- A scalar is read out of contents, a part of which some registers hold. Of a pointer whose entry nothing reads the word is
+-- read alone, and an integer gets the entry of no pointer where its temporary has one.
+abbrev pub scalar_part_code : Scalar → (with_entry : Bool) → (into from scratch : ℕ) → List FlatInstruction
+scalar_part_code (Integer t) false d a s = read_part_code (held_from a) (HeldInteger t d) s
+scalar_part_code (Integer t) true d a s =
+    read_part_code (held_from a) (HeldInteger t d) s ++ no_entry (held_from d).tag
+scalar_part_code Pointer false d a s = read_part_code (held_from a) (HeldInteger UnsignedLong d) s
+scalar_part_code Pointer true d a s = read_part_code (held_from a) (HeldPointer (held_from d)) s
+
+-- What is done with a value that may be a part of contents: one with a lock word is a place, and any other is a part.
+abbrev pub place_or_part : (may_be_part : Bool) → (value : ℕ) → (part place : List FlatInstruction)
+    → List FlatInstruction
+place_or_part false a part place = place
+place_or_part true a part place =
+    Branch Bne (held_from a).tag.lock (Number 0) (length part + 1)
+    ∷ (part ++ (JumpForward (length place) ∷ place))
+
+-- ---- parameters
 
 -- a parameter that is a structure is put from its argument to its home
 abbrev pub store_structure_code : OperatorCode → (number : (place : ℕ) → ℕ) → (size home from scratch : ℕ)

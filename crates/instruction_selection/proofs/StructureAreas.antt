@@ -16,8 +16,9 @@ use Rattle.tac_ir.specs.declared.function.Tac.{Tac}
 use Rattle.tac_ir.specs.Meaning.{function_in}
 use Rattle.tac_ir.specs.Structures.{greatest_structure, result_of, result_of_type, structure_put, structures_below}
 use Rattle.tac_ir.specs.Temporaries.{temporaries}
+use Rattle.metadata_plan.specs.Entries.{has_area}
 use Rattle.metadata_plan.specs.Registers.{most_temporaries}
-use Rattle.metadata_relation.specs.Structures.{has_area, HasAreas}
+use Rattle.metadata_relation.specs.Structures.{HasAreas}
 use Rattle.instruction_selection.specs.declared.areas.StructurePut.{StructurePut}
 use Rattle.instruction_selection.specs.Areas.{put_by, sum_before, AreGreatest, AreSumsOf, HasTable}
 

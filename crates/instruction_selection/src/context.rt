@@ -1,6 +1,7 @@
 //! What the flat code of the instructions of a function is made from.
 
 ghost use Rattle.std.specs.Prelude.{◌≡◌, ◌+◌, ◌-◌, ◌*◌, ◌<◌, ◌≤◌, ◌^◌, true, get_or, length, Some, slice_get};
+ghost use Rattle.metadata_plan.specs.Entries.{has_area};
 ghost use Rattle.metadata_plan.specs.Registers.{most_temporaries};
 ghost use Rattle.metadata_relation.specs.Registers.{variable_register, home_register, temporary_register};
 ghost use Rattle.metadata_relation.specs.Registers.{moved_register};
@@ -8,7 +9,6 @@ ghost use Rattle.metadata_relation.specs.Registers.{first_free};
 ghost use Rattle.metadata_relation.specs.Registers.{parameters_end, total};
 ghost use Rattle.metadata_relation.specs.Registers.{variable_words};
 ghost use Rattle.tac_ir.specs.Structures.{structures_below};
-ghost use Rattle.metadata_relation.specs.Structures.{has_area};
 ghost use Rattle.instruction_selection.specs.Contexts.{HasRegisters, IsPrepared, type_at};
 
 use crate::registers::{Registers, argument_words};

@@ -44,7 +44,7 @@ use Rattle.runtime_functions.specs.declared.runtime.RuntimeFunction.TheVariants.
 use Rattle.runtime_functions.specs.declared.runtime.RuntimeFunction.TheVariants.{MoveArea, PutArea, TakeArea}
 use Rattle.runtime_functions.specs.Library.{held_from}
 use Rattle.metadata_plan.specs.Entries.{pointer_of, is_pointer_type, entry_source, key_in}
-use Rattle.metadata_plan.specs.Entries.{can_compare, reads_for, is_name, has_fixed_path}
+use Rattle.metadata_plan.specs.Entries.{can_compare, has_area, reads_for, is_name, has_fixed_path}
 use Rattle.metadata_plan.specs.OperatorLists.Operators.{operators}
 use Rattle.metadata_plan.specs.Registers.{all_variables, most_temporaries}
 use Rattle.metadata_plan.proofs.Numbers.{most_at}
@@ -56,7 +56,7 @@ use Rattle.metadata_relation.specs.Blocks.{Expansion, block, untagged, move_valu
 use Rattle.metadata_relation.specs.Blocks.{get_code, set_code}
 use Rattle.metadata_relation.specs.Blocks.{conversion, update_plain_code, update_code, named_address, named_size}
 use Rattle.metadata_relation.specs.Blocks.{path_range}
-use Rattle.metadata_relation.specs.Structures.{copy_place, has_area, move_area_place, put_area_place, take_area_place}
+use Rattle.metadata_relation.specs.Structures.{copy_place, move_area_place, put_area_place, take_area_place}
 use Rattle.metadata_relation.specs.Structures.{zero_area_place}
 use Rattle.metadata_relation.specs.Blocks.{judge_code, check_code, compare_code, runtime_number, zero_place}
 use Rattle.metadata_relation.specs.Blocks.{enter_place}

@@ -12,6 +12,7 @@ pub mod Temporaries
 pub mod Pieces
 pub mod EntryLists
 pub mod Accesses
+pub mod ReadParts
 pub mod Updates
 pub mod Checks
 pub mod Structures

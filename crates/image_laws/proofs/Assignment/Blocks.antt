@@ -44,7 +44,7 @@ use Rattle.runtime_functions.specs.declared.runtime.RuntimeFunction.TheVariants.
 use Rattle.runtime_functions.specs.declared.runtime.RuntimeFunction.TheVariants.{MoveArea, PutArea, TakeArea}
 use Rattle.runtime_functions.specs.Library.{held_from}
 use Rattle.metadata_plan.specs.Entries.{pointer_of, is_pointer_type, entry_source, key_in}
-use Rattle.metadata_plan.specs.Entries.{can_compare, has_area, reads_for, is_name, has_fixed_path}
+use Rattle.metadata_plan.specs.Entries.{can_compare, has_area, may_read_part, reads_for, is_name, has_fixed_path}
 use Rattle.metadata_plan.specs.OperatorLists.Operators.{operators}
 use Rattle.metadata_plan.specs.Registers.{all_variables, most_temporaries}
 use Rattle.metadata_plan.proofs.Numbers.{most_at}
@@ -75,7 +75,8 @@ use Rattle.image_laws.proofs.Assignment.Values.{zero_block}
 use Rattle.image_laws.proofs.Assignment.Values.{set_pointer, set_word, integer, last_moved, move_entry_flows}
 use Rattle.image_laws.proofs.Assignment.Values.{constant_flows}
 use Rattle.image_laws.proofs.Assignment.Temporaries.{all_one_of}
-use Rattle.image_laws.proofs.Assignment.Accesses.{is_pointer, loaded_block, written_block}
+use Rattle.image_laws.proofs.Assignment.Accesses.{is_pointer, written_block}
+use Rattle.image_laws.proofs.Assignment.ReadParts.{read_block}
 use Rattle.image_laws.proofs.Assignment.Updates.{IsRight, updated_integer, updated_pointer, changed_integer}
 use Rattle.image_laws.proofs.Assignment.Updates.{changed_pointer}
 use Rattle.image_laws.proofs.Assignment.Checks.{narrowed_block, checked_block, ranged_block, part_flows, stored_part}
@@ -482,9 +483,11 @@ module _ (site : Site) where
   block_of (tac.Read (OfScalar k) mode line key d a m) ok at has homes =
       let i = tac.Read (OfScalar k) mode line key d a m in
       let lt = most_at c.code n i at in
-      loaded_block p u P read write entries whole.map G low (whole.entries u m d) (temporary_register c d)
+      let part = may_read_part whole.code c mode a in
+      read_block p u P read write entries whole.map G low (whole.entries u m d) (temporary_register c d)
       (temporary_register c a) (first_free c) (word site i a has (itself site a))
-      (temporary_named site d (whole.entries u m d) (omega (arith, lt))) (own site) k
+      (temporary_named site d (whole.entries u m d) (omega (arith, lt))) (own site) k part
+      (λ read. tagged_in site i a at has (itself site a) (and_from (a == a) part (itself site a) read))
   block_of (tac.Read Void mode line key d a m) ok at has homes = read_place Void mode line key d a m at has tt
   block_of (tac.Read (Structure size) mode line key d a m) ok at has homes =
       read_place (Structure size) mode line key d a m at has tt

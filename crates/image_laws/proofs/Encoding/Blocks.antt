@@ -49,7 +49,7 @@ use Rattle.lib_wrappers.specs.PrintingRoutines.Formats.{byte_code}
 use Rattle.runtime_functions.specs.declared.library.LibraryFunction.{LibraryFunction}
 use Rattle.runtime_functions.specs.declared.library.LibraryFunction.TheVariants as library
 use Rattle.runtime_functions.specs.Library.{held_from, signature}
-use Rattle.metadata_plan.specs.Entries.{pointer_of, key_in}
+use Rattle.metadata_plan.specs.Entries.{has_area, key_in, may_read_part, pointer_of}
 use Rattle.metadata_plan.specs.OperatorLists.Operators.{operators}
 use Rattle.metadata_plan.specs.Registers.{all_variables}
 use Rattle.metadata_relation.specs.FunctionTypes.{first_of_type}
@@ -68,10 +68,10 @@ use Rattle.metadata_relation.specs.Blocks.{offset_code, narrow_code, number_code
 use Rattle.metadata_relation.specs.Blocks.{static_object, part_address, held_scalar, library_code, runtime_call}
 use Rattle.metadata_relation.specs.Blocks.{statuses_of}
 use Rattle.metadata_relation.specs.Blocks.{status_code, pack, objects_of_body, leave_code, enter_code, runtime_number}
-use Rattle.metadata_relation.specs.Blocks.{zeros}
+use Rattle.metadata_relation.specs.Blocks.{read_code, zeros}
 use Rattle.metadata_relation.specs.Blocks.{zero_variables, store_parameter, store_parameters, enter_body, prologue}
 use Rattle.metadata_relation.specs.Steps.{have_bytes}
-use Rattle.metadata_relation.specs.Structures.{has_area, put_code}
+use Rattle.metadata_relation.specs.Structures.{put_code, scalar_part_code}
 use Rattle.image_laws.specs.Encoding.Fitting.{AreFit, FitEntries, HasShortPlaces, HasWords, FitsFunction, FitsCode}
 use Rattle.image_laws.specs.Encoding.Fitting.{moved_by}
 use Rattle.image_laws.proofs.Encoding.Parts.{fit_append, lifted, constant_fit, conversion_fit, short, untagged_fit}
@@ -81,6 +81,7 @@ use Rattle.image_laws.proofs.Encoding.Parts.{difference_fit}
 use Rattle.image_laws.proofs.Encoding.Parts.{narrow_fit, load_fit, store_fit, new_integer_fit, new_address_fit}
 use Rattle.image_laws.proofs.Encoding.Parts.{left_fit}
 use Rattle.image_laws.proofs.Encoding.Parts.{status_fit, pack_fit, unpack_fit, fit_if, part_fit, bytes_fit, put_fit}
+use Rattle.image_laws.proofs.Encoding.Parts.{place_or_part_fit, scalar_part_fit}
 use Rattle.image_laws.proofs.Encoding.Parts.{store_structure_fit, take_structure_fit, zero_structure_fit}
 use Rattle.image_laws.proofs.Encoding.Checks.{judge_fits}
 use Rattle.image_laws.proofs.Encoding.Calls.{call_fits, through_fits, enter_fits}
@@ -190,6 +191,11 @@ module _ (whole : Expansion) (u : ℕ) (c : CodeFunction) (read write : EntryCod
       (load_fit read write whole.map entries a (HeldInteger t d) s) (untagged_fit b d)
   load_fits Pointer false d a s = load_fit read write whole.map entries a (HeldInteger UnsignedLong d) s
   load_fits Pointer true d a s = (tt, load_fit read write whole.map entries s (HeldPointer (held_from d)) (s + 1))
+
+  read_fits : (q : Bool) (k : Scalar) (b : Bool) (d a s : ℕ) → AreFit (read_code Lists q (OfScalar k) b d a s)
+  read_fits q k b d a s =
+      place_or_part_fit q a (scalar_part_code k b d a s) (load_code Lists k b d a s) (scalar_part_fit k b d a s)
+      (load_fits k b d a s)
 
   write_fits : (k : Scalar) (b : Bool) (d p a s : ℕ) → AreFit (write_code Lists k b d p a s)
   write_fits (Integer t) b d p a s =
@@ -365,7 +371,8 @@ module _ (whole : Expansion) (u : ℕ) (c : CodeFunction) (read write : EntryCod
       (temporary_register c a) (first_free c) words.0 words.1
   block_fits (tac.Take kind line d a m) words = abort 1 (omega arith)
   block_fits (tac.Read (OfScalar k) mode line key d a m) words =
-      load_fits k (whole.entries u m d) (temporary_register c d) (temporary_register c a) (first_free c)
+      read_fits (may_read_part whole.code c mode a) k (whole.entries u m d) (temporary_register c d)
+      (temporary_register c a) (first_free c)
   block_fits (tac.Read kind mode line key d a m) words =
       move_fit (whole.entries u m d) (temporary_register c d) (temporary_register c a)
   block_fits (tac.Write (OfScalar k) mode line key d a b m) words =

@@ -7,6 +7,9 @@ use Rattle.addr_map.specs.declared.region.Region.TheVariants.{StructureValues}
 use Rattle.addr_map.specs.Places.{MapSizes, region_start}
 use Rattle.rv_isa.specs.declared.instruction.RegOp.{RegOp}
 use Rattle.obj_memory.specs.declared.int_type.IntType.{IntType}
+use Rattle.obj_memory.specs.declared.int_type.IntType.TheVariants.{UnsignedLong}
+use Rattle.obj_memory.specs.declared.value.Scalar.{Scalar}
+use Rattle.obj_memory.specs.declared.value.Scalar.TheVariants.{Integer, Pointer}
 use Rattle.c_tree.specs.declared.expression.Update.{Update}
 use Rattle.c_tree.specs.declared.expression.Update.TheVariants.{Arithmetic, Forward, Back}
 use Rattle.tac_ir.specs.declared.instruction.RightOperand.{RightOperand as Right}
@@ -29,10 +32,11 @@ use Rattle.lib_wrappers.specs.declared.accesses.held.HeldScalar.TheVariants.{Int
 use Rattle.lib_wrappers.specs.declared.accesses.held.HeldScalar.TheVariants.{Pointer as HeldPointer}
 use Rattle.lib_wrappers.specs.AccessRoutines.Accessing.{load_code, store_code}
 use Rattle.lib_wrappers.specs.AreaRoutines.Areas.{whole_words}
+use Rattle.lib_wrappers.specs.AreaRoutines.Reading.{read_part_code, read_pointer_code}
 use Rattle.lib_wrappers.specs.AllocatingRoutines.Entering.{leave_code as leave_list}
 use Rattle.runtime_functions.specs.declared.status.ReturnStatus.{ReturnStatus}
 use Rattle.runtime_functions.specs.declared.status.ReturnStatus.TheVariants.{Completed}
-use Rattle.runtime_functions.specs.Library.{Passed, NoValue, OneWord, WithEntry}
+use Rattle.runtime_functions.specs.Library.{Passed, NoValue, OneWord, WithEntry, held_from}
 use Rattle.metadata_plan.specs.OperatorLists.Operators.{operators}
 use Rattle.metadata_relation.specs.InlineLists.{inline_lists}
 use Rattle.metadata_relation.specs.Blocks.{untagged, move_value, move_entry_if, entry_constants_if, number_code}
@@ -41,7 +45,8 @@ use Rattle.metadata_relation.specs.Blocks.{is_short, right_code, right_register,
 use Rattle.metadata_relation.specs.Blocks.{status_tests, status_code, pack, unpack, part_address, store_bytes}
 use Rattle.metadata_relation.specs.Structures.{area_code, await_code, begin_area_code, bound_code, callee_part_code}
 use Rattle.metadata_relation.specs.Structures.{copy_code, hold_area, store_structure_code}
-use Rattle.metadata_relation.specs.Structures.{move_area_place, part_call_code, put_area_place, put_code}
+use Rattle.metadata_relation.specs.Structures.{move_area_place, part_call_code, place_or_part, put_area_place, put_code}
+use Rattle.metadata_relation.specs.Structures.{scalar_part_code}
 use Rattle.metadata_relation.specs.Structures.{take_part_code, take_place_code, take_structure_code, zero_structure_code}
 use Rattle.machine_laws.specs.Blocks.Blocks.{IsShort, RightIsShort}
 use Rattle.image_laws.specs.Encoding.Fitting.{IsFit, AreFit, AreBytes, FitEntries, HasShortPlaces, moved_by}
@@ -182,6 +187,62 @@ module _ (read write : EntryCode) (map : MapSizes) (entries : FitEntries read wr
   store_fit a (HeldInteger ty r) t = (omega arith, tt)
   store_fit a (HeldPointer h) t =
       (omega arith, (short 61 (omega arith), (short 0 (omega arith), entries.writes a h.tag t)))
+
+-- ---- scalars read out of contents
+
+pointer_part_fit : (h into : Held) (t : ℕ) → AreFit (read_pointer_code h into t)
+pointer_part_fit h into t = (
+  omega arith,
+  (
+    tt,
+    (
+      short 61 (omega arith),
+      (
+        short 1 (omega arith),
+        (
+          short 3 (omega arith),
+          (
+            short 5 (omega arith),
+            (
+              tt,
+              (
+                omega arith,
+                (
+                  omega arith,
+                  (
+                    omega arith,
+                    (
+                      omega arith,
+                      (tt, (tt, (tt, (tt, (tt, (tt, (tt, (tt, (tt, tt))))))))),
+                    ),
+                  ),
+                ),
+              ),
+            ),
+          ),
+        ),
+      ),
+    ),
+  ),
+)
+
+read_part_fit : (h : Held) (into : HeldScalar) (t : ℕ) → AreFit (read_part_code h into t)
+read_part_fit h (HeldInteger ty r) t = (omega arith, tt)
+read_part_fit h (HeldPointer into) t = pointer_part_fit h into t
+
+pub scalar_part_fit : (k : Scalar) (b : Bool) (d a s : ℕ) → AreFit (scalar_part_code k b d a s)
+scalar_part_fit (Integer t) false d a s = read_part_fit (held_from a) (HeldInteger t d) s
+scalar_part_fit (Integer t) true d a s =
+    fit_append (read_part_code (held_from a) (HeldInteger t d) s) (untagged true d)
+    (read_part_fit (held_from a) (HeldInteger t d) s) (untagged_fit true d)
+scalar_part_fit Pointer false d a s = read_part_fit (held_from a) (HeldInteger UnsignedLong d) s
+scalar_part_fit Pointer true d a s = read_part_fit (held_from a) (HeldPointer (held_from d)) s
+
+-- what is read from a place, or out of contents
+pub place_or_part_fit : (q : Bool) (a : ℕ) (part place : List FlatInstruction) → AreFit part → AreFit place
+    → AreFit (place_or_part q a part place)
+place_or_part_fit false a part place f g = g
+place_or_part_fit true a part place f g = (short 0 (omega arith), fit_append part _ f (tt, g))
 
 -- ---- updates
 

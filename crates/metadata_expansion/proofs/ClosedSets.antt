@@ -1,28 +1,19 @@
 -- When sets of temporaries are closed.
 use Rattle.std.proofs.Common.{◌≡◌, ◌≢◌, inl, inr, ℕ, zero, suc, Bool, true, false, not, ◌&&◌, ◌||◌, ◌==◌, List, [], ◌∷◌, refl, sym, ap}
-use Rattle.std.proofs.Common.{◌∙◌, subst, Option, Some, None, ◌+◌, ◌-◌, ◌<◌, ◌≤◌, ◌++◌, length, get_or, arith}
+use Rattle.std.proofs.Common.{◌∙◌, subst, Option, Some, None, ◌+◌, ◌<◌, ◌≤◌, ◌++◌, length, arith}
 use Rattle.std.specs.Prelude.{slice_get, nat_le, nat_lt}
 use Rattle.std.proofs.lemmas.Bool.{eqb-true, eq-eqb, ne_eqb, false≢true, ltb-true, ltb-false, lt-ltb, le-leb, le-ltb}
 use Rattle.std.proofs.lemmas.Option.{same_Some, none-some}
-use Rattle.obj_memory.specs.declared.value.Scalar.TheVariants.{Integer, Pointer}
-use Rattle.c_tree.specs.declared.expression.Kind.{Kind}
-use Rattle.c_tree.specs.declared.expression.Kind.TheVariants.{Void, Scalar as OfScalar, Structure, Array}
-use Rattle.c_tree.specs.declared.expression.OffsetForm.{OffsetForm}
-use Rattle.c_tree.specs.declared.expression.OffsetForm.TheVariants as form
-use Rattle.c_tree.specs.declared.program.Variable.{Variable}
-use Rattle.source_meaning.specs.Good.{plain_type}
 use Rattle.tac_ir.specs.declared.instruction.Instruction.TheVariants as tac
 use Rattle.tac_ir.specs.Temporaries.{temporaries}
 use Rattle.metadata_plan.specs.Registers.{most_temporaries}
-use Rattle.metadata_plan.specs.Entries.{converted_from, read_from, written_from, pointer_of, is_among}
-use Rattle.metadata_plan.specs.Entries.{is_argument_with_entry, is_moved_with_entry}
+use Rattle.metadata_plan.specs.Entries.{is_among}
 use Rattle.metadata_expansion.specs.declared.temporary_set.TemporarySet.{TemporarySet}
 use Rattle.metadata_expansion.specs.TemporarySets.{is_in, room}
 use Rattle.tac_ir.specs.declared.instruction.Instruction.{Instruction}
 use Rattle.tac_ir.specs.declared.function.CodeFunction.{CodeFunction}
-use Rattle.tac_ir.specs.declared.function.Tac.{Tac}
 use Rattle.tac_ir.specs.Edges.{successors, IsAmong}
-use Rattle.metadata_plan.specs.Entries.{Entries, AreClosed, IsOther, given, entry_source, reads_entry}
+use Rattle.metadata_plan.specs.Entries.{Entries, IsOther, given}
 use Rattle.metadata_expansion.specs.ClosedSets.{HaveRoom, in_sets, is_in_some}
 use Rattle.metadata_expansion.specs.ClosedSets.{Reads, Source, has_at, is_passed_on, needs, IsClosedUnder, ReadsNone, AreNone}
 

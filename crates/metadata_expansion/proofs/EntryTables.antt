@@ -1,8 +1,8 @@
 -- Which temporaries have entries.
-use Rattle.std.proofs.Common.{◌≡◌, ◌≢◌, inl, inr, ℕ, zero, suc, Bool, true, false, not, ◌&&◌, ◌||◌, ◌==◌, List, [], ◌∷◌, refl, sym, ap}
-use Rattle.std.proofs.Common.{◌∙◌, subst, Option, Some, None, ◌+◌, ◌-◌, ◌<◌, ◌≤◌, ◌++◌, length, get_or, arith}
-use Rattle.std.specs.Prelude.{slice_get, nat_le, nat_lt}
-use Rattle.std.proofs.lemmas.Bool.{eqb-true, eq-eqb, ne_eqb, false≢true, ltb-true, ltb-false, lt-ltb, le-leb, le-ltb}
+use Rattle.std.proofs.Common.{◌≡◌, ℕ, zero, suc, Bool, true, false, ◌&&◌, ◌||◌, ◌==◌, List, [], ◌∷◌, refl, sym, ap}
+use Rattle.std.proofs.Common.{◌∙◌, Some, None, ◌+◌, ◌-◌, ◌<◌, ◌≤◌, ◌++◌, length, get_or, arith}
+use Rattle.std.specs.Prelude.{slice_get}
+use Rattle.std.proofs.lemmas.Bool.{eqb-true}
 use Rattle.std.proofs.lemmas.Option.{same_Some, none-some}
 use Rattle.obj_memory.specs.declared.value.Scalar.TheVariants.{Integer, Pointer}
 use Rattle.c_tree.specs.declared.expression.Kind.{Kind}
@@ -13,19 +13,14 @@ use Rattle.c_tree.specs.declared.program.Variable.{Variable}
 use Rattle.source_meaning.specs.Good.{plain_type}
 use Rattle.tac_ir.specs.declared.instruction.Instruction.TheVariants as tac
 use Rattle.tac_ir.specs.Temporaries.{temporaries}
-use Rattle.metadata_plan.specs.Registers.{most_temporaries}
 use Rattle.metadata_plan.specs.Entries.{converted_from, read_from, written_from, pointer_of, is_among}
 use Rattle.metadata_plan.specs.Entries.{is_argument_with_entry, is_moved_with_entry}
-use Rattle.metadata_expansion.specs.declared.temporary_set.TemporarySet.{TemporarySet}
-use Rattle.metadata_expansion.specs.TemporarySets.{is_in, room}
 use Rattle.tac_ir.specs.declared.instruction.Instruction.{Instruction}
 use Rattle.tac_ir.specs.declared.function.CodeFunction.{CodeFunction}
 use Rattle.tac_ir.specs.declared.function.Tac.{Tac}
-use Rattle.tac_ir.specs.Edges.{successors, IsAmong}
-use Rattle.metadata_plan.specs.Entries.{Entries, AreClosed, IsOther, given, entry_source, reads_entry}
+use Rattle.metadata_plan.specs.Entries.{Entries, AreClosed, entry_source, reads_entry}
 use Rattle.metadata_expansion.proofs.ClosedSets.{IsBelow, below_some, among_more, or_among}
-use Rattle.metadata_expansion.specs.ClosedSets.{HaveRoom, in_sets, is_in_some}
-use Rattle.metadata_expansion.specs.ClosedSets.{Reads, Source, has_at, is_passed_on, needs, IsClosedUnder, ReadsNone, AreNone}
+use Rattle.metadata_expansion.specs.ClosedSets.{IsClosedUnder}
 
 converted_below : (kind : Kind) (a n : ℕ) → a < n → IsBelow (converted_from kind a) n
 converted_below Void a n h = tt

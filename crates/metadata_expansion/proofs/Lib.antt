@@ -5,3 +5,4 @@ pub mod Counting
 pub mod TemporaryWords
 pub mod ClosedSets
 pub mod EntryTables
+pub mod GreatestStructures

@@ -7,3 +7,4 @@ pub mod Laying
 pub mod Contexts
 pub mod TemporarySets
 pub mod ClosedSets
+pub mod Areas

@@ -44,7 +44,8 @@ impl TemporaryTable {
     }
 }
 
-/// What instructions want of temporaries: which of them one reads, and of which it makes what it gives.
+/// What instructions want of temporaries, by what is known of their function: which of them one reads, and of which it
+/// makes what it gives.
 pub trait TemporaryUse {
     /// Whether an instruction of a function reads a temporary.
     ghost reads: { Tac → CodeFunction → Instruction → ℕ → Bool };
@@ -52,13 +53,18 @@ pub trait TemporaryUse {
     /// The temporary of which an instruction makes what it gives.
     ghost source: { Instruction → Option ℕ };
 
+    /// Whether what is known of a function is right.
+    ghost IsOf: { Self → Tac → CodeFunction → Type 0 };
+
     /// Puts those temporaries into a set that an instruction of a function reads.
     fn insert_read(
+        &self,
         set: &mut TemporarySet,
         program: &Tac,
         function: &CodeFunction,
         instruction: &Instruction,
     )
+        requires known { IsOf self.now program.now function.now }
         requires inside { temporaries instruction.now ≤ room set.old }
         requires small { room set.old < 2 ^ 64 }
         ensures room { room set.new ≡ room set.old }
@@ -66,7 +72,7 @@ pub trait TemporaryUse {
             ≡ (is_in set.old y || reads program.now function.now instruction.now y) };
 
     /// The temporary of which an instruction makes what it gives.
-    fn source_of(instruction: &Instruction) -> Option<usize>
+    fn source_of(&self, instruction: &Instruction) -> Option<usize>
         ensures same { result ≡ source instruction.now }
         ensures among { (a : ℕ) → result ≡ Some a → a < temporaries instruction.now };
 }
@@ -189,8 +195,10 @@ fn needed<U: TemporaryUse>(
     sets: &[TemporarySet],
     program: &Tac,
     function: &CodeFunction,
+    uses: &U,
     instruction: &Instruction,
 ) -> Result<TemporarySet, AllocError>
+    requires known { U.IsOf uses.now program.now function.now }
     requires few { words < 2 ^ 32 }
     requires sets { HaveRoom (64 * words) sets.now }
     requires among { temporaries instruction.now ≤ 64 * words }
@@ -200,8 +208,8 @@ fn needed<U: TemporaryUse>(
 {
     let mut set = TemporarySet::new(alloc, words)?;
     insert_behind(&mut set, sets, ways_of(instruction));
-    pass_on(&mut set, given(instruction), U::source_of(instruction));
-    U::insert_read(&mut set, program, function, instruction);
+    pass_on(&mut set, given(instruction), uses.source_of(instruction));
+    uses.insert_read(&mut set, program, function, instruction);
     Ok(set)
 }
 
@@ -212,7 +220,9 @@ fn found<U: TemporaryUse>(
     words: usize,
     program: &Tac,
     function: &CodeFunction,
+    uses: &U,
 ) -> Result<Vec<TemporarySet>, AllocError>
+    requires known { U.IsOf uses.now program.now function.now }
     requires few { words < 2 ^ 32 }
     requires inside { most_temporaries function.now.code ≤ 64 * words }
     ensures size { IfOk result (λ sets. length sets.items ≡ length function.now.code) }
@@ -223,12 +233,13 @@ fn found<U: TemporaryUse>(
     let mut sets = Vec::new(alloc);
     for node in 0..function.code.as_slice().len() {
         let instruction = instruction_at(function, node);
-        let set = needed::<U>(
+        let set = needed(
             alloc,
             words,
             sets.as_slice(),
             program,
             function,
+            uses,
             instruction,
         )?;
         sets.push(set)?;
@@ -251,7 +262,9 @@ fn is_closed<U: TemporaryUse>(
     sets: &[TemporarySet],
     program: &Tac,
     function: &CodeFunction,
+    uses: &U,
 ) -> Result<bool, AllocError>
+    requires known { U.IsOf uses.now program.now function.now }
     requires few { words < 2 ^ 32 }
     requires inside { most_temporaries function.now.code ≤ 64 * words }
     requires size { length sets.now ≡ length function.now.code }
@@ -263,7 +276,7 @@ fn is_closed<U: TemporaryUse>(
 {
     for node in 0..function.code.as_slice().len() {
         let instruction = instruction_at(function, node);
-        let set = needed::<U>(alloc, words, sets, program, function, instruction)?;
+        let set = needed(alloc, words, sets, program, function, uses, instruction)?;
         let found = set_at(sets, node);
         if !set.is_within(found) {
             return Ok(false);
@@ -278,16 +291,18 @@ pub fn closed_table<U: TemporaryUse>(
     alloc: Global,
     program: &Tac,
     function: &CodeFunction,
+    uses: &U,
 ) -> Result<TemporaryTable, AllocError>
-    requires { most_temporaries function.now.code < 2 ^ 32 }
+    requires known { U.IsOf uses.now program.now function.now }
+    requires few { most_temporaries function.now.code < 2 ^ 32 }
     ensures closed { IfOk result (λ table. IsClosedUnder (U.reads program.now function.now) U.source function.now
         (in_table table)) }
     ensures none { IfOk result (λ table. ReadsNone (U.reads program.now function.now) function.now
         → AreNone (in_table table)) }
 {
     let words = (most_temporaries(function.code.as_slice()) / 64) as usize + 1;
-    let sets = found::<U>(alloc, words, program, function)?;
-    if is_closed::<U>(alloc, words, sets.as_slice(), program, function)? {
+    let sets = found(alloc, words, program, function, uses)?;
+    if is_closed(alloc, words, sets.as_slice(), program, function, uses)? {
         return Ok(TemporaryTable::Sets(sets));
     }
     Ok(TemporaryTable::Every)

@@ -6,22 +6,28 @@ ghost use Rattle.std.specs.List.{list_all};
 ghost use Rattle.c_tree.specs.declared.expression.Kind.TheVariants.{Void};
 ghost use Rattle.c_tree.specs.Kinds.{routine_signature};
 ghost use Rattle.source_meaning.specs.Good.{plain_type};
+ghost use Rattle.tac_ir.specs.declared.function.CodeFunction.{CodeFunction};
+ghost use Rattle.tac_ir.specs.declared.function.Tac.{Tac};
 ghost use Rattle.tac_ir.specs.Meaning.{function_in};
 ghost use Rattle.tac_ir.specs.Temporaries.{temporaries};
 ghost use Rattle.metadata_plan.specs.Registers.{all_variables, most_temporaries};
 ghost use Rattle.metadata_plan.specs.Entries.{AreClosed, can_compare, converted_from, entry_source, given};
 ghost use Rattle.metadata_plan.specs.Entries.{is_among, is_argument_with_entry, is_fixed};
-ghost use Rattle.metadata_plan.specs.Entries.{is_moved_with_entry, is_name, is_pointer_type, key_in, parameter_kinds};
-ghost use Rattle.metadata_plan.specs.Entries.{pointer_of, read_from, reads_entry, reads_for, written_from};
+ghost use Rattle.metadata_plan.specs.Entries.{is_moved_with_entry, is_name, is_pointer_type, is_scalar, key_in};
+ghost use Rattle.metadata_plan.specs.Entries.{may_read_part, parameter_kinds, pointer_of, read_from, reads_entry};
+ghost use Rattle.metadata_plan.specs.Entries.{reads_for, written_from};
+ghost use Rattle.metadata_expansion.specs.Areas.{AreGreatest};
 ghost use Rattle.metadata_expansion.specs.TemporarySets.{is_in, room};
 ghost use Rattle.metadata_expansion.specs.ClosedSets.{AreNone, ReadsNone, in_table};
 
+use crate::areas::{greatest_structures, has_area, result_kind};
 use crate::closing::{TemporaryTable, TemporaryUse, closed_table, insert_among, insert_if};
+use crate::registers::most_temporaries;
 use crate::temporary_set::TemporarySet;
 use c_tree::{Kind, OffsetForm, Routine, Variable};
 use obj_memory::Scalar;
 use std::alloc::{AllocError, Global};
-use tac_ir::{Base, CodeFunction, Instruction, Key, Member, Tac, Test};
+use tac_ir::{Base, CodeFunction, Instruction, Key, Member, Mode, Tac, Test};
 
 // The pointer of a sum of a pointer and an index.
 fn pointer_of(form: OffsetForm, left: usize, right: usize) -> usize
@@ -95,6 +101,13 @@ fn is_moved_with_entry(kind: Kind) -> bool
     ensures { result ≡ is_moved_with_entry kind }
 {
     matches!(kind, Kind::Scalar(Scalar::Pointer) | Kind::Structure(_))
+}
+
+// Whether a kind is a scalar.
+fn is_scalar(kind: Kind) -> bool
+    ensures { result ≡ is_scalar kind }
+{
+    matches!(kind, Kind::Scalar(_))
 }
 
 // Whether a plain variable is a pointer.
@@ -249,23 +262,26 @@ fn insert_arguments(set: &mut TemporarySet, parameters: &[Variable], first: usiz
     }
 }
 
-// The kind of what a function gives.
-fn result_kind(program: &Tac, function: &CodeFunction) -> Kind
-    ensures { result ≡ get_or program.now.results function.now.type_number Void }
+// Whether a scalar that is read may be a part of contents, by the greatest structure of each temporary.
+fn may_read_part(areas: &[u128], mode: Mode, temporary: usize) -> bool
+    ensures { (t : Tac) (c : CodeFunction) → AreGreatest areas.now (most_temporaries c.code) t c.code
+        → result ≡ may_read_part t c mode temporary }
 {
-    match program.results.as_slice().get(function.type_number) {
-        Some(kind) => *kind,
-        None => Kind::Void,
+    match mode {
+        Mode::Named => has_area(areas, temporary),
+        Mode::Unchecked | Mode::Judged => false,
     }
 }
 
 // Puts those temporaries into a set that an instruction of a function reads as pointers.
 fn insert_pointers_read(
     set: &mut TemporarySet,
+    areas: &[u128],
     program: &Tac,
     function: &CodeFunction,
     instruction: &Instruction,
 )
+    requires areas { AreGreatest areas.now (most_temporaries function.now.code) program.now function.now.code }
     requires inside { temporaries instruction.now ≤ room set.old }
     requires small { room set.old < 2 ^ 64 }
     ensures room { room set.new ≡ room set.old }
@@ -278,6 +294,15 @@ fn insert_pointers_read(
         }
         Instruction::Take { kind, from, .. } => {
             insert_if(set, *from, matches!(kind, Kind::Structure(_)));
+        }
+        Instruction::Read {
+            kind,
+            mode,
+            from,
+            ..
+        } => {
+            let is_part = is_scalar(*kind) && may_read_part(areas, *mode, *from);
+            insert_if(set, *from, is_part);
         }
         Instruction::Write { kind, value, .. } => {
             insert_if(set, *value, is_moved_with_entry(*kind));
@@ -322,25 +347,31 @@ fn insert_pointers_read(
 
 /// Pointers, of which entries are wanted.
 #[derive(Clone, Copy)]
-pub struct PointerUse;
+pub struct PointerUse<'a> {
+    /// The bytes of the greatest structure of each temporary of a function.
+    pub areas: &'a [u128],
+}
 
-impl TemporaryUse for PointerUse {
+impl<'a> TemporaryUse for PointerUse<'a> {
     ghost reads = { reads_entry };
 
     ghost source = { entry_source };
 
+    ghost IsOf = { λ x t c. AreGreatest x.areas.now (most_temporaries c.code) t c.code };
+
     #[tactic(auto, using(crate::proofs::EntryTables::source_low))]
-    fn source_of(instruction: &Instruction) -> Option<usize> {
+    fn source_of(&self, instruction: &Instruction) -> Option<usize> {
         entry_source(instruction)
     }
 
     fn insert_read(
+        &self,
         set: &mut TemporarySet,
         program: &Tac,
         function: &CodeFunction,
         instruction: &Instruction,
     ) {
-        insert_pointers_read(set, program, function, instruction);
+        insert_pointers_read(set, self.areas, program, function, instruction);
     }
 }
 
@@ -358,5 +389,11 @@ pub fn entry_table(
     ensures none { IfOk result (λ table. ReadsNone (reads_entry program.now function.now) function.now
         → AreNone (in_table table)) }
 {
-    closed_table::<PointerUse>(alloc, program, function)
+    let instructions = function.code.as_slice();
+    let count = most_temporaries(instructions) as usize;
+    let areas = greatest_structures(alloc, program, instructions, count)?;
+    let uses = PointerUse {
+        areas: areas.as_slice(),
+    };
+    closed_table(alloc, program, function, &uses)
 }

@@ -4,6 +4,7 @@
 //! operators of `metadata_plan` and homes for the virtual registers (`specs/Homes`).
 #![tactic(auto)]
 
+pub mod areas;
 pub mod blocks;
 pub mod body;
 pub mod calls;

@@ -58,7 +58,7 @@ fn put_registers(
 }
 
 // The greater of two numbers.
-fn greater(left: u128, right: u128) -> u128
+pub(crate) fn greater(left: u128, right: u128) -> u128
     ensures { result ≡ max left right }
 {
     if left < right { right } else { left }

@@ -9,6 +9,7 @@ pub mod Operands
 pub mod OneEntry
 pub mod PlainTypes
 pub mod Ranges
+pub mod ReadLists
 pub mod Regions
 pub mod Routines
 pub mod StaticPlaces

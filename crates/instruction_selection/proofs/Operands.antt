@@ -148,3 +148,6 @@ below_apart h d a e below =
 
 pub held_below : (h : Held) (d s : ℕ) → h ≡ held_from d → d + 5 ≤ s → AreBelow s (held_registers h)
 held_below h d s e below = subst (λ z. AreBelow s (held_registers z)) (sym e) (are_below d s below)
+
+pub held_distinct : (h : Held) (d : ℕ) → h ≡ held_from d → AreDistinct (held_registers h)
+held_distinct h d e = subst (λ z. AreDistinct (held_registers z)) (sym e) (are_distinct d)

@@ -20,7 +20,7 @@ use Rattle.metadata_expansion.specs.ClosedSets.{IsClosedUnder, in_table}
 use Rattle.metadata_expansion.proofs.ClosedSets.{IsBelow, below_some, or_among}
 use Rattle.metadata_relation.specs.Contents.{AreKept, contents_source, structure_from, takes_word}
 use Rattle.instruction_selection.specs.declared.covered.contents.FunctionContents.{FunctionContents}
-use Rattle.instruction_selection.specs.Areas.{AreGreatest}
+use Rattle.metadata_expansion.specs.Areas.{AreGreatest}
 use Rattle.instruction_selection.specs.Covered.{is_other_source, may_have, reads_word}
 
 -- ---- what is put into a set
@@ -31,6 +31,11 @@ both_inserted x a b z w first second = second ∙ ap (λ v. v || b) first ∙ or
 pub none_besides : (x a z : Bool) → z ≡ (x || a) → z ≡ (x || (a || false))
 none_besides x true z e = e
 none_besides x false z e = e
+
+-- nothing is put into it
+pub nothing_put : (x z : Bool) → z ≡ x → z ≡ (x || false)
+nothing_put true z e = e
+nothing_put false z e = e
 
 -- ---- what contents are given of
 

@@ -1,23 +1,10 @@
 -- Where the structures by value of a function lie, by a table over its temporaries.
-use Rattle.std.specs.Prelude.{◌≡◌, ℕ, zero, suc, ◌+◌, ◌*◌, ◌^◌, ◌<◌, ◌≤◌, ◌==◌, if◌then◌else◌, List, [], ◌∷◌, get_or, length}
-use Rattle.obj_memory.specs.Heap.{rounded_up}
-use Rattle.tac_ir.specs.declared.instruction.Instruction.{Instruction}
+use Rattle.std.specs.Prelude.{◌≡◌, ℕ, zero, suc, ◌+◌, ◌*◌, ◌≤◌, List, [], ◌∷◌, get_or, length}
 use Rattle.tac_ir.specs.declared.function.CodeFunction.{CodeFunction}
 use Rattle.tac_ir.specs.declared.function.Tac.{Tac}
-use Rattle.tac_ir.specs.Structures.{greatest_structure, structures_below}
+use Rattle.tac_ir.specs.Structures.{structures_below}
 use Rattle.metadata_plan.specs.Registers.{most_temporaries}
 use Rattle.metadata_relation.specs.Structures.{HasAreas}
-use Rattle.instruction_selection.specs.declared.areas.StructurePut.{StructurePut}
-
--- the bytes of a structure that is put into a temporary, as another one has them
-abbrev pub put_by : StructurePut → (temporary : ℕ) → ℕ
-put_by p i = if p.to == i then rounded_up 16 p.size else 0
-
--- the greatest structure of each of so many temporaries
-pub record AreGreatest (list : List ℕ) (count : ℕ) (code : Tac) (instructions : List Instruction) : Type 0 where
-  pub size : length list ≡ count
-  pub each : (i : ℕ) → i < count → get_or list i 0 ≡ greatest_structure code instructions i
-  pub few : (i : ℕ) → get_or list i 0 ≤ 2 ^ 65
 
 -- the sum of the first numbers of a list
 abbrev pub sum_before : List ℕ → (count : ℕ) → ℕ

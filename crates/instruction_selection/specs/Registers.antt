@@ -1,20 +1,18 @@
 -- The numbers of a function's virtual registers, as a struct has them.
 use Rattle.std.specs.Prelude.{◌≡◌, ℕ, ◌+◌, ◌*◌, ◌^◌, ◌≤◌, Bool, true, length, Some, get_or}
-use Rattle.c_tree.specs.declared.expression.Kind.{Kind}
-use Rattle.c_tree.specs.declared.expression.Kind.TheVariants.{Structure}
 use Rattle.c_tree.specs.Format.{directives, pieces}
 use Rattle.source_meaning.specs.Printing.{pieces_or_none}
 use Rattle.source_meaning.specs.Blocks.{has_objects}
 use Rattle.tac_ir.specs.declared.instruction.Instruction.{Instruction}
 use Rattle.tac_ir.specs.declared.instruction.Instruction.TheVariants as tac
 use Rattle.tac_ir.specs.declared.function.Tac.{Tac}
-use Rattle.tac_ir.specs.Meaning.{function_in, objects_in, text_in}
+use Rattle.tac_ir.specs.Meaning.{objects_in, text_in}
 use Rattle.tac_ir.specs.declared.function.CodeFunction.{CodeFunction}
-use Rattle.tac_ir.specs.Structures.{result_of, result_of_type}
 use Rattle.tac_ir.specs.Temporaries.{temporaries}
 use Rattle.metadata_plan.specs.Registers.{most_temporaries}
 use Rattle.metadata_relation.specs.Registers.{variable_register, variables_end, home_register, homes_end}
 use Rattle.metadata_relation.specs.Registers.{first_free}
+use Rattle.metadata_expansion.specs.Areas.{structure_taken}
 use Rattle.instruction_selection.specs.declared.registers.Registers.{Registers}
 use Rattle.instruction_selection.specs.Calls.{argument_count}
 
@@ -44,18 +42,6 @@ last_handed t i = 0
 abbrev pub function_named : Instruction → ℕ
 function_named (tac.FunctionPointer d f m) = f
 function_named i = 0
-
--- the bytes of a structure that is made of zeros, taken, or given by a call
-abbrev pub bytes_of_structure : Kind → ℕ
-bytes_of_structure (Structure n) = n
-bytes_of_structure kind = 0
-
-abbrev pub structure_taken : Tac → Instruction → ℕ
-structure_taken t (tac.ZeroOf kind d m) = bytes_of_structure kind
-structure_taken t (tac.Take kind line d a m) = bytes_of_structure kind
-structure_taken t (tac.Call f line d n m) = bytes_of_structure (result_of t.results (function_in t f))
-structure_taken t (tac.CallThrough type_number line d n m) = bytes_of_structure (result_of_type t.results type_number)
-structure_taken t i = 0
 
 -- a block that is left has objects
 abbrev pub leaves_objects : CodeFunction → Instruction → Bool

@@ -8,13 +8,12 @@ ghost use Rattle.flat_actions.specs.Actions.{registers_of};
 ghost use Rattle.lib_wrappers.specs.AccessRoutines.Holding.{holder_in, IsApartFrom};
 ghost use Rattle.lib_wrappers.specs.AccessRoutines.Accessing.{load_code as load_list, store_code as store_list};
 ghost use Rattle.metadata_relation.specs.InlineLists.{inline_lists};
-ghost use Rattle.metadata_relation.specs.Blocks.{held_scalar, load_code, read_code, write_code};
+ghost use Rattle.metadata_relation.specs.Blocks.{held_scalar, load_code, write_code};
 
 use crate::context::FunctionContext;
 use crate::entries::{held_from, put_untagged, put_value};
 use crate::list::{append, put};
 use addr_map::laws::sizes_are_in_range;
-use c_tree::Kind;
 use flat_code::FlatInstruction;
 use lib_wrappers::accesses::{HeldScalar, load, store};
 use obj_memory::{IntType, Scalar};
@@ -122,31 +121,6 @@ pub fn put_scalar<S: ShadowForm>(
             let word = HeldScalar::Integer(IntType::UnsignedLong, into);
             put_load::<S>(code, context, from, word, scratch)
         }
-    }
-}
-
-/// Puts what gives what a pointer points to behind a list: a scalar is loaded, and all else is where it lies. It fails
-/// only for want of memory.
-pub fn put_read<S: ShadowForm>(
-    code: &mut Vec<FlatInstruction>,
-    context: &FunctionContext,
-    kind: Kind,
-    with_entry: bool,
-    into: u32,
-    from: u32,
-    scratch: u32,
-) -> Result<(), AllocError>
-    requires into { into + 5 ≤ scratch }
-    requires from { from + 5 ≤ scratch }
-    requires room { scratch + 16 ≤ 2 ^ 31 }
-    ensures { OnOk result (code.new.items ≡ code.old.items
-        ++ read_code (inline_lists S.entry_read S.entry_write context.now.map.now) kind with_entry into from scratch) }
-{
-    match kind {
-        Kind::Scalar(scalar) => {
-            put_scalar::<S>(code, context, scalar, with_entry, into, from, scratch)
-        }
-        Kind::Void | Kind::Structure(_) | Kind::Array(_) => put_value(code, with_entry, into, from),
     }
 }
 

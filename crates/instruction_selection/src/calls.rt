@@ -14,7 +14,7 @@ ghost use Rattle.metadata_relation.specs.Blocks.{await_result, call_code, call_o
 ghost use Rattle.metadata_relation.specs.Blocks.{callee_tests, object_tests, result_of, room_tests, through_code};
 ghost use Rattle.metadata_relation.specs.Blocks.{through_of, unknown_object_tests};
 ghost use Rattle.instruction_selection.specs.Contexts.{CanBeCalled, IsPrepared};
-ghost use Rattle.instruction_selection.specs.Registers.{bytes_of_structure};
+ghost use Rattle.metadata_expansion.specs.Areas.{bytes_of_structure};
 
 use crate::call_tests::{
     put_call_tests, put_callee_tests, put_object_tests, put_room_tests, put_unknown_object_tests,

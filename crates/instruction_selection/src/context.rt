@@ -1,7 +1,7 @@
 //! What the flat code of the instructions of a function is made from.
 
 ghost use Rattle.std.specs.Prelude.{◌≡◌, ◌+◌, ◌-◌, ◌*◌, ◌<◌, ◌≤◌, ◌^◌, true, get_or, length, Some, slice_get};
-ghost use Rattle.metadata_plan.specs.Entries.{has_area};
+ghost use Rattle.metadata_plan.specs.Entries.{has_area, may_read_part};
 ghost use Rattle.metadata_plan.specs.Registers.{most_temporaries};
 ghost use Rattle.metadata_relation.specs.Registers.{variable_register, home_register, temporary_register};
 ghost use Rattle.metadata_relation.specs.Registers.{moved_register};
@@ -16,7 +16,7 @@ use crate::statics::StaticPlace;
 use addr_map::AddrMap;
 use c_tree::Variable;
 use std::alloc::Global;
-use tac_ir::{CodeFunction, Tac};
+use tac_ir::{CodeFunction, Mode, Tac};
 
 /// What the flat code of the instructions of a function is made from.
 #[derive(Clone, Copy)]
@@ -140,6 +140,18 @@ impl<'a> FunctionContext<'a> {
         ensures { result ≡ has_area self.now.program.now self.now.function.now temporary }
     {
         self.structures_below(temporary) < self.structures_below(temporary + 1)
+    }
+
+    /// Whether a scalar that is read of a temporary may be a member of contents.
+    pub fn may_read_part(&self, mode: Mode, temporary: usize) -> bool
+        requires prepared { IsPrepared self.now }
+        requires there { temporary < most_temporaries self.now.function.now.code }
+        ensures { result ≡ may_read_part self.now.program.now self.now.function.now mode temporary }
+    {
+        match mode {
+            Mode::Named => self.has_area(temporary),
+            Mode::Unchecked | Mode::Judged => false,
+        }
     }
 
     /// The first register that is free.

@@ -24,6 +24,7 @@ pub mod numbers;
 pub mod place_updates;
 pub mod pointers;
 pub mod printing;
+pub mod reads;
 pub mod registers;
 pub mod runtime_calls;
 pub mod selection;

@@ -14,7 +14,6 @@ ghost use Rattle.metadata_relation.specs.Steps.{is_covered_call, is_covered_main
 ghost use Rattle.metadata_relation.specs.Steps.{result_comes_to};
 ghost use Rattle.instruction_selection.specs.Covered.{admits_with, callable_functions, is_callable, may_have, IsTabled};
 
-use crate::areas::given_by_type;
 use crate::blocks::has_objects;
 use crate::calls::{body_objects, result_of};
 use crate::covered::Coverage;
@@ -24,6 +23,7 @@ use crate::formats::pieces_of;
 use crate::initializers::text_of;
 use c_tree::format::Piece;
 use c_tree::{Kind, Variable};
+use metadata_expansion::areas::given_by_type;
 use std::alloc::{AllocError, Global};
 use tac_ir::{CodeFunction, Instruction, Tac};
 

@@ -9,9 +9,9 @@ ghost use Rattle.metadata_expansion.specs.TemporarySets.{is_in, room};
 ghost use Rattle.metadata_relation.specs.Contents.{AreKept, contents_source, is_read_there, is_right, structure_from};
 ghost use Rattle.instruction_selection.specs.Covered.{is_other_source, may_have, reads_word};
 
-use crate::areas::greatest_structures;
 use crate::temporaries::most_temporaries;
 use c_tree::Kind;
+use metadata_expansion::areas::{greatest_structures, has_area};
 use metadata_expansion::closing::{
     TemporaryTable, TemporaryUse, closed_table, insert_among, insert_if,
 };
@@ -85,8 +85,9 @@ fn insert_updated(set: &mut TemporarySet, right: RightOperand, pointer: usize)
     insert_word(set, pointer);
 }
 
-// Puts a temporary into a set of which something is read: where it is a structure, if another temporary gets it.
-#[tactic(auto, using(crate::proofs::WordUses::none_besides))]
+// Puts a temporary into a set of which something is read, but a scalar: where it is a structure, if another temporary
+// gets it.
+#[tactic(auto, using(crate::proofs::WordUses::none_besides, crate::proofs::WordUses::nothing_put))]
 fn insert_read_word(set: &mut TemporarySet, kind: Kind, to: usize, from: usize)
     requires { from < room set.old }
     ensures room { room set.new ≡ room set.old }
@@ -94,8 +95,9 @@ fn insert_read_word(set: &mut TemporarySet, kind: Kind, to: usize, from: usize)
         || (is_other_source (structure_from kind from) (Some to) y || (is_read_there kind && y == from))) }
 {
     match kind {
+        Kind::Scalar(_) => {}
         Kind::Structure(_) => insert_if(set, from, from != to),
-        Kind::Void | Kind::Scalar(_) | Kind::Array(_) => insert_word(set, from),
+        Kind::Void | Kind::Array(_) => insert_word(set, from),
     }
 }
 
@@ -149,12 +151,15 @@ impl TemporaryUse for WordUse {
 
     ghost source = { contents_source };
 
+    ghost IsOf = { λ _ _ _. Unit {0} };
+
     #[tactic(auto, using(crate::proofs::WordUses::source_low))]
-    fn source_of(instruction: &Instruction) -> Option<usize> {
+    fn source_of(&self, instruction: &Instruction) -> Option<usize> {
         contents_source(instruction)
     }
 
     fn insert_read(
+        &self,
         set: &mut TemporarySet,
         program: &Tac,
         function: &CodeFunction,
@@ -173,16 +178,6 @@ pub struct FunctionContents {
     pub areas: Vec<u128>,
     /// The temporaries whose word is taken.
     pub words: TemporaryTable,
-}
-
-// Whether a temporary has an area.
-fn has_area(areas: &[u128], temporary: usize) -> bool
-    ensures { result ≡ nat_le 1 (get_or areas.now temporary 0) }
-{
-    match areas.get(temporary) {
-        Some(bytes) => 1 <= *bytes,
-        None => false,
-    }
 }
 
 impl FunctionContents {
@@ -232,6 +227,6 @@ pub fn contents_of(
             words: TemporaryTable::Every,
         });
     }
-    let words = closed_table::<WordUse>(alloc, program, function)?;
+    let words = closed_table(alloc, program, function, &WordUse)?;
     Ok(FunctionContents { areas, words })
 }

@@ -6,11 +6,12 @@ ghost use Rattle.instruction_selection.specs.Contexts.{IsPrepared};
 ghost use Rattle.instruction_selection.specs.Registers.{IsAmong};
 ghost use Rattle.instruction_selection.specs.Selected.{is_access, selected, assigned_code, is_place_update};
 
-use crate::accesses::{WriteRegisters, put_read, put_write};
+use crate::accesses::{WriteRegisters, put_write};
 use crate::checks::{Check, put_judge};
 use crate::context::FunctionContext;
 use crate::list::put;
 use crate::place_updates::{PlaceUpdate, put_update};
+use crate::reads::{ReadRegisters, put_read};
 use crate::structures::put_structure_write;
 use c_tree::Kind;
 use flat_code::FlatInstruction;
@@ -98,10 +99,20 @@ pub fn put_access<S: ShadowForm>(
         ++ selected S.entry_read S.entry_write context.now with_entry instruction.now) }
 {
     match instruction {
-        Instruction::Read { kind, to, from, .. } => {
-            let into = context.temporary(*to);
-            let from = context.temporary(*from);
-            put_read::<S>(code, context, *kind, with_entry, into, from, context.free())
+        Instruction::Read {
+            kind,
+            mode,
+            to,
+            from,
+            ..
+        } => {
+            let registers = ReadRegisters {
+                into: context.temporary(*to),
+                from: context.temporary(*from),
+                scratch: context.free(),
+            };
+            let may_be_part = context.may_read_part(*mode, *from);
+            put_read::<S>(code, context, *kind, may_be_part, with_entry, registers)
         }
         Instruction::Write {
             kind,

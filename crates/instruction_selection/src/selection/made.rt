@@ -8,7 +8,8 @@ ghost use Rattle.metadata_plan.specs.Registers.{most_temporaries};
 ghost use Rattle.metadata_relation.specs.InlineLists.{inline_lists};
 ghost use Rattle.metadata_relation.specs.Registers.{temporary_register};
 ghost use Rattle.instruction_selection.specs.Contexts.{IsPrepared};
-ghost use Rattle.instruction_selection.specs.Registers.{IsAmong, bytes_of_structure};
+ghost use Rattle.metadata_expansion.specs.Areas.{bytes_of_structure};
+ghost use Rattle.instruction_selection.specs.Registers.{IsAmong};
 ghost use Rattle.instruction_selection.specs.Selected.{is_made, selected, take_code, zero_of_code};
 
 use crate::contents::{AreaValue, put_take, put_zero_structure};

@@ -1,6 +1,6 @@
 use Rattle.std.proofs.Common.{◌≡◌, sym, ap, ◌∙◌, subst}
 use Rattle.metadata_plan.specs.Registers.{most_temporaries}
-use Rattle.instruction_selection.specs.Areas.{AreGreatest}
+use Rattle.metadata_expansion.specs.Areas.{AreGreatest}
 use Rattle.instruction_selection.proofs.StructureAreas.{found_areas}
 use Rattle.instruction_selection.proofs.areas.structure_areas.Goals as goal
 

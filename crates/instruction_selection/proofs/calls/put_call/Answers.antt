@@ -3,7 +3,7 @@ use Rattle.std.specs.Prelude.{OnOk}
 use Rattle.tac_ir.specs.Structures.{result_of}
 use Rattle.metadata_plan.specs.OperatorLists.Operators.{operators}
 use Rattle.metadata_relation.specs.Blocks.{call_of}
-use Rattle.instruction_selection.specs.Registers.{bytes_of_structure}
+use Rattle.metadata_expansion.specs.Areas.{bytes_of_structure}
 use Rattle.instruction_selection.proofs.calls.put_call.Goals as goal
 
 pub returns-in-None : goal.returns-in-None

@@ -3,7 +3,7 @@ use Rattle.std.specs.Prelude.{slice_get}
 use Rattle.tac_ir.specs.Structures.{result_of_type}
 use Rattle.metadata_relation.specs.FunctionTypes.{first_of_type}
 use Rattle.metadata_relation.proofs.FunctionTypes.{first_typed}
-use Rattle.instruction_selection.specs.Registers.{bytes_of_structure}
+use Rattle.metadata_expansion.specs.Areas.{bytes_of_structure}
 use Rattle.instruction_selection.proofs.calls.put_call_through.Goals as goal
 
 pub put_called_through-requires-clause-callee : goal.put_called_through-requires-clause-callee

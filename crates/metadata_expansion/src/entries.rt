@@ -376,8 +376,8 @@ impl<'a> TemporaryUse for PointerUse<'a> {
 }
 
 /// The temporaries of a function that have entries: a closed set of them, and none where no instruction reads a
-/// temporary as a pointer. It takes time and memory for each node and each 64 temporaries, and fails only for want of
-/// memory.
+/// temporary as a pointer. It takes time and memory for each temporary, and for each node and each 64 temporaries, and
+/// fails only for want of memory.
 #[tactic(auto, using(crate::proofs::EntryTables::entries_closed))]
 pub fn entry_table(
     alloc: Global,

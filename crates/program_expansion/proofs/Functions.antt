@@ -1,5 +1,5 @@
 -- The functions of a program, each by entries of its own.
-use Rattle.std.proofs.Common.{◌≡◌, ℕ, zero, suc, ◌+◌, ◌^◌, ◌<◌, ◌≤◌, nat_lt, Bool, true, false, List, [], ◌∷◌, ◌++◌}
+use Rattle.std.proofs.Common.{◌≡◌, ℕ, zero, suc, ◌+◌, ◌^◌, ◌<◌, nat_lt, Bool, true, false, List, [], ◌∷◌, ◌++◌}
 use Rattle.std.proofs.Common.{length}
 use Rattle.std.proofs.Common.{Option, Some, None, slice_get, refl, sym, ap, ◌∙◌, subst, arith}
 use Rattle.std.proofs.lemmas.Bool.{ltb-true, ltb-false}
@@ -9,7 +9,6 @@ use Rattle.addr_map.specs.Places.{MapSizes}
 use Rattle.tac_ir.specs.declared.instruction.Instruction.{Instruction}
 use Rattle.tac_ir.specs.declared.function.CodeFunction.{CodeFunction}
 use Rattle.tac_ir.specs.declared.function.Tac.{Tac}
-use Rattle.flat_code.specs.declared.instruction.FlatInstruction.{FlatInstruction}
 use Rattle.flat_code.specs.declared.function.FlatFunction.{FlatFunction}
 use Rattle.flat_code.specs.declared.function.FlatProgram.{FlatProgram}
 use Rattle.shadow_space.specs.Form.{EntryCode}
@@ -20,9 +19,9 @@ use Rattle.metadata_relation.specs.FunctionTypes.{HaveTypeKeys}
 use Rattle.metadata_relation.specs.InlineLists.{inline_lists}
 use Rattle.metadata_relation.specs.Blocks.{Expansion, block, prologue}
 use Rattle.metadata_relation.specs.Homes.{homes}
-use Rattle.metadata_relation.specs.Laid.{entry_of, function_of, functions_from, program_of}
+use Rattle.metadata_relation.specs.Laid.{entry_of, function_of, functions_from}
 use Rattle.instruction_selection.proofs.OneEntry.{by_one}
-use Rattle.program_expansion.specs.Expansions.{AreFunctionsOf, HasFunction, IsBodyOf, IsExpansionOf, IsFunctionOf}
+use Rattle.program_expansion.specs.Expansions.{AreFunctionsOf, HasFunction, IsExpansionOf, IsFunctionOf}
 use Rattle.program_expansion.specs.Expansions.{Refuses, expansion_of, expansion_with, flat_function, types_by}
 use Rattle.program_expansion.specs.Limits.{AreWithinLimits}
 use Rattle.program_expansion.specs.Tables.{AreTables, FunctionRefusal}

@@ -1,6 +1,6 @@
 -- A function within limits is prepared, and its instructions name what is there.
-use Rattle.std.proofs.Common.{◌≡◌, ℕ, zero, suc, ◌+◌, ◌^◌, ◌<◌, ◌≤◌, ◌&&◌, nat_le, Bool, true, false, List, [], ◌∷◌, length}
-use Rattle.std.proofs.Common.{Some, slice_get, refl, sym, ap, ◌∙◌, subst, arith}
+use Rattle.std.proofs.Common.{◌≡◌, ℕ, zero, suc, ◌^◌, ◌<◌, ◌≤◌, ◌&&◌, nat_le, Bool, true, false, List, [], ◌∷◌, length}
+use Rattle.std.proofs.Common.{Some, slice_get, refl, sym, ap, ◌∙◌, arith}
 use Rattle.std.specs.List.{list_all}
 use Rattle.std.proofs.lemmas.Bool.{false≢true, leb-true}
 use Rattle.tac_ir.specs.declared.instruction.Instruction.{Instruction}
@@ -13,7 +13,7 @@ use Rattle.instruction_selection.specs.Areas.{HasTable}
 use Rattle.instruction_selection.specs.declared.context.FunctionContext.{FunctionContext}
 use Rattle.instruction_selection.specs.Contexts.{CanBeCalled, HasRegisters, HasStatics, IsPrepared, type_at}
 use Rattle.instruction_selection.specs.Registers.{IsAmong, function_named, last_handed, leaves_objects}
-use Rattle.instruction_selection.specs.Registers.{structure_taken}
+use Rattle.metadata_expansion.specs.Areas.{structure_taken}
 use Rattle.program_expansion.specs.Limits.{AreWithinLimits, IsSmall, IsWithinLimits, names_own, padded_size}
 use Rattle.program_expansion.proofs.Small.{bytes_few, length_few, objects_among, opened_few, parameters_few, size_few}
 use Rattle.program_expansion.proofs.Small.{total_append}

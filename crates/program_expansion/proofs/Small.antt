@@ -10,10 +10,9 @@ use Rattle.c_tree.specs.Kinds.{size_of_kind}
 use Rattle.c_tree.specs.Valid.{at_number}
 use Rattle.source_meaning.specs.Blocks.{objects_end}
 use Rattle.tac_ir.specs.declared.function.CodeFunction.{CodeFunction}
-use Rattle.tac_ir.specs.Meaning.{if_there, objects_in}
 use Rattle.lib_wrappers.specs.AllocatingRoutines.Entering.{block_bytes}
-use Rattle.metadata_plan.specs.Registers.{all_variables, most_temporaries}
-use Rattle.metadata_relation.specs.Registers.{home_words, parameter_words, total}
+use Rattle.metadata_plan.specs.Registers.{most_temporaries}
+use Rattle.metadata_relation.specs.Registers.{parameter_words, total}
 use Rattle.instruction_selection.specs.Blocks.{AreObjectsAmong}
 use Rattle.instruction_selection.specs.Registers.{HasFewRegisters}
 use Rattle.program_expansion.specs.Limits.{HaveObjectsOf, padded_size}

@@ -13,7 +13,8 @@ use Rattle.metadata_relation.specs.Registers.{total}
 use Rattle.metadata_relation.specs.StartData.{statics_end}
 use Rattle.metadata_relation.specs.Structures.{HasAreas}
 use Rattle.instruction_selection.specs.Registers.{HasFewRegisters, last_handed, function_named}
-use Rattle.instruction_selection.specs.Registers.{leaves_objects, structure_taken}
+use Rattle.metadata_expansion.specs.Areas.{structure_taken}
+use Rattle.instruction_selection.specs.Registers.{leaves_objects}
 
 -- the bytes of a variable, and of what may stand before it so that it begins at a multiple of 16
 abbrev pub padded_size : Variable → ℕ

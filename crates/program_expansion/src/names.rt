@@ -13,10 +13,10 @@ ghost use Rattle.program_expansion.specs.Limits.{names_own};
 
 use c_tree::Routine;
 use c_tree::format::Piece;
-use instruction_selection::areas::structure_put;
 use instruction_selection::blocks::{block_objects, has_objects};
 use instruction_selection::formats::pieces_of;
 use instruction_selection::initializers::text_of;
+use metadata_expansion::areas::structure_put;
 use metadata_expansion::registers::most_temporaries;
 use std::alloc::{AllocError, Global};
 use tac_ir::{CodeFunction, Instruction, Tac};

@@ -1,7 +1,6 @@
-use Rattle.std.proofs.Common.{refl, arith, sym, ap, ◌∙◌}
-use Rattle.metadata_expansion.specs.ClosedSets.{in_table}
+use Rattle.std.proofs.Common.{arith}
 use Rattle.program_expansion.proofs.Prepared.{is_among, prepared}
-use Rattle.program_expansion.proofs.Small.{behind_nothing, is_long, temporaries_few}
+use Rattle.program_expansion.proofs.Small.{temporaries_few}
 use Rattle.program_expansion.proofs.function.body_of.Goals as goal
 
 pub entry_table-requires : goal.entry_table-requires

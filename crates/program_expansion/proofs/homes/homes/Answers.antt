@@ -1,6 +1,6 @@
-use Rattle.std.proofs.Common.{◌≡◌, ◌+◌, ◌*◌, ◌-◌, ◌++◌, ap, sym, ◌∙◌, arith, append_assoc}
+use Rattle.std.proofs.Common.{◌≡◌, ◌+◌, ◌*◌, ◌-◌, ◌++◌, ap, ◌∙◌, arith, append_assoc}
 use Rattle.metadata_plan.specs.Registers.{most_temporaries}
-use Rattle.metadata_relation.specs.Homes.{words_from, scratch_count}
+use Rattle.metadata_relation.specs.Homes.{words_from}
 use Rattle.metadata_relation.specs.Registers.{moved_register}
 use Rattle.program_expansion.proofs.homes.homes.Goals as goal
 

@@ -1,6 +1,6 @@
-use Rattle.std.proofs.Common.{◌≡◌, length, ap, sym, subst, ◌∙◌, arith}
+use Rattle.std.proofs.Common.{sym, subst}
 use Rattle.program_expansion.specs.Expansions.{AreFunctionsOf, types_by}
-use Rattle.program_expansion.proofs.Functions.{none_done, one_more_done, refused}
+use Rattle.program_expansion.proofs.Functions.{none_done, one_more_done}
 use Rattle.program_expansion.proofs.program.functions_of.Goals as goal
 
 pub loop-number-init : goal.loop-number-init

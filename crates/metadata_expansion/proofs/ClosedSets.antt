@@ -1,7 +1,7 @@
 -- When sets of temporaries are closed.
 use Rattle.std.proofs.Common.{◌≡◌, ◌≢◌, inl, inr, ℕ, zero, suc, Bool, true, false, not, ◌&&◌, ◌||◌, ◌==◌, List, [], ◌∷◌, refl, sym, ap}
 use Rattle.std.proofs.Common.{◌∙◌, subst, Option, Some, None, ◌+◌, ◌<◌, ◌≤◌, ◌++◌, length, arith}
-use Rattle.std.specs.Prelude.{slice_get, nat_le, nat_lt}
+use Rattle.std.specs.Prelude.{slice_get, set, nat_le, nat_lt}
 use Rattle.std.proofs.lemmas.Bool.{eqb-true, eq-eqb, ne_eqb, false≢true, ltb-true, ltb-false, lt-ltb, le-leb, le-ltb}
 use Rattle.std.proofs.lemmas.Option.{same_Some, none-some}
 use Rattle.tac_ir.specs.declared.instruction.Instruction.TheVariants as tac
@@ -175,6 +175,30 @@ none_more sets s old new = record { by = at sets old.by }
     at [] old (suc n) y = refl
     at (x ∷ xs) old zero y = old zero y
     at (x ∷ xs) old (suc n) y = at xs (λ m. old (suc m)) n y
+
+pub room_set : (n node : ℕ) (sets : List TemporarySet) (s : TemporarySet) → HaveRoom n sets → room s ≡ n
+    → HaveRoom n (set sets node s)
+room_set n node sets s old new = record { by = at node sets old.by }
+  where
+    at : (node : ℕ) (sets : List TemporarySet) → ((k : ℕ) (r : TemporarySet) → slice_get sets k ≡ Some r → room r ≡ n)
+        → (k : ℕ) (r : TemporarySet) → slice_get (set sets node s) k ≡ Some r → room r ≡ n
+    at node [] old k r h = absurd (none-some _ h)
+    at zero (x ∷ xs) old zero r h = ap room (sym (same_Some _ _ h)) ∙ new
+    at zero (x ∷ xs) old (suc k) r h = old (suc k) r h
+    at (suc m) (x ∷ xs) old zero r h = old zero r h
+    at (suc m) (x ∷ xs) old (suc k) r h = at m xs (λ i. old (suc i)) k r h
+
+pub none_set : (node : ℕ) (sets : List TemporarySet) (s : TemporarySet) → AreNone (in_sets sets)
+    → ((y : ℕ) → is_in s y ≡ false) → AreNone (in_sets (set sets node s))
+none_set node sets s old new = record { by = at node sets old.by }
+  where
+    at : (node : ℕ) (sets : List TemporarySet) → ((n y : ℕ) → in_sets sets n y ≡ false) → (n y : ℕ)
+        → in_sets (set sets node s) n y ≡ false
+    at node [] old n y = refl
+    at zero (x ∷ xs) old zero y = new y
+    at zero (x ∷ xs) old (suc n) y = old (suc n) y
+    at (suc m) (x ∷ xs) old zero y = old zero y
+    at (suc m) (x ∷ xs) old (suc n) y = at m xs (λ i. old (suc i)) n y
 
 pub no_sets : (n : ℕ) → HaveRoom n []
 no_sets n = record { by = λ k s h. absurd (none-some _ h) }

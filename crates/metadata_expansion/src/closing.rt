@@ -1,7 +1,7 @@
 //! Sets of temporaries that are closed under what instructions read and make of others, found in one pass over the nodes
 //! of a function.
 
-ghost use Rattle.std.specs.Prelude.{◌≡◌, ℕ, ◌+◌, ◌*◌, ◌<◌, ◌≤◌, ◌&&◌, ◌||◌, ◌==◌, ◌^◌, length, true, IfOk, Some};
+ghost use Rattle.std.specs.Prelude.{◌≡◌, ℕ, ◌+◌, ◌*◌, ◌<◌, ◌≤◌, ◌&&◌, ◌||◌, ◌==◌, ◌^◌, length, false, true, IfOk, Some};
 ghost use Rattle.std.specs.Prelude.{Bool, Option, slice_get};
 ghost use Rattle.tac_ir.specs.declared.instruction.Instruction.{Instruction};
 ghost use Rattle.tac_ir.specs.declared.function.CodeFunction.{CodeFunction};
@@ -213,8 +213,110 @@ fn needed<U: TemporaryUse>(
     Ok(set)
 }
 
+// Empty sets for so many nodes.
+fn empty_sets(alloc: Global, words: usize, nodes: usize) -> Result<Vec<TemporarySet>, AllocError>
+    ensures size { IfOk result (λ sets. length sets.items ≡ nodes) }
+    ensures room { IfOk result (λ sets. HaveRoom (64 * words) sets.items) }
+    ensures none { IfOk result (λ sets. AreNone (in_sets sets.items)) }
+{
+    let mut sets = Vec::new(alloc);
+    for _ in 0..nodes {
+        let set = TemporarySet::new(alloc, words)?;
+        sets.push(set)?;
+    }
+    Ok(sets)
+}
+
+// The set of a node becomes another one.
+#[tactic(auto, using(crate::proofs::ClosedSets::room_set, crate::proofs::ClosedSets::none_set))]
+fn replace(sets: &mut Vec<TemporarySet>, node: usize, set: TemporarySet)
+    requires node { node < length sets.old.items }
+    ensures size { length sets.new.items ≡ length sets.old.items }
+    ensures room { (n : ℕ) → HaveRoom n sets.old.items → room set ≡ n → HaveRoom n sets.new.items }
+    ensures none { AreNone (in_sets sets.old.items) → ((y : ℕ) → is_in set y ≡ false) → AreNone (in_sets sets.new.items) }
+{
+    sets[node] = set;
+}
+
+// The set of a node becomes what is wanted there, as far as the sets of others tell.
+fn improve<U: TemporaryUse>(
+    alloc: Global,
+    words: usize,
+    sets: &mut Vec<TemporarySet>,
+    program: &Tac,
+    function: &CodeFunction,
+    uses: &U,
+    node: usize,
+) -> Result<(), AllocError>
+    requires known { U.IsOf uses.now program.now function.now }
+    requires few { words < 2 ^ 32 }
+    requires inside { most_temporaries function.now.code ≤ 64 * words }
+    requires node { node < length function.now.code }
+    requires size { length sets.old.items ≡ length function.now.code }
+    requires room { HaveRoom (64 * words) sets.old.items }
+    ensures size { length sets.new.items ≡ length function.now.code }
+    ensures room { HaveRoom (64 * words) sets.new.items }
+    ensures none { ReadsNone (U.reads program.now function.now) function.now → AreNone (in_sets sets.old.items)
+        → AreNone (in_sets sets.new.items) }
+{
+    let instruction = instruction_at(function, node);
+    let set = needed(
+        alloc,
+        words,
+        sets.as_slice(),
+        program,
+        function,
+        uses,
+        instruction,
+    )?;
+    replace(sets, node, set);
+    Ok(())
+}
+
+// The node behind another one to which that leads alone: where a check was put in, what it checks stands behind all.
+fn later(function: &CodeFunction, node: usize) -> Option<usize>
+    requires { node < length function.now.code }
+    ensures { (k : ℕ) → result ≡ Some k → k < length function.now.code }
+{
+    match ways_of(instruction_at(function, node)) {
+        Ways::To(next) if node < next && next < function.code.as_slice().len() => Some(next),
+        _ => None,
+    }
+}
+
+// The same of two nodes behind one, the last of them first.
+fn improve_later<U: TemporaryUse>(
+    alloc: Global,
+    words: usize,
+    sets: &mut Vec<TemporarySet>,
+    program: &Tac,
+    function: &CodeFunction,
+    uses: &U,
+    node: usize,
+) -> Result<(), AllocError>
+    requires known { U.IsOf uses.now program.now function.now }
+    requires few { words < 2 ^ 32 }
+    requires inside { most_temporaries function.now.code ≤ 64 * words }
+    requires node { node < length function.now.code }
+    requires size { length sets.old.items ≡ length function.now.code }
+    requires room { HaveRoom (64 * words) sets.old.items }
+    ensures size { length sets.new.items ≡ length function.now.code }
+    ensures room { HaveRoom (64 * words) sets.new.items }
+    ensures none { ReadsNone (U.reads program.now function.now) function.now → AreNone (in_sets sets.old.items)
+        → AreNone (in_sets sets.new.items) }
+{
+    if let Some(first) = later(function, node) {
+        if let Some(second) = later(function, first) {
+            improve(alloc, words, sets, program, function, uses, second)?;
+        }
+        improve(alloc, words, sets, program, function, uses, first)?;
+    }
+    Ok(())
+}
+
 // A set for each node. Code that comes later has lower nodes: so those to which an instruction leads are known before it,
-// but for the ends of loops, where no temporary is in use.
+// but for the ends of loops, where no temporary is in use, and for checks that were put in and what they check, which stand
+// behind all.
 fn found<U: TemporaryUse>(
     alloc: Global,
     words: usize,
@@ -230,19 +332,11 @@ fn found<U: TemporaryUse>(
     ensures none { IfOk result (λ sets. ReadsNone (U.reads program.now function.now) function.now
         → AreNone (in_sets sets.items)) }
 {
-    let mut sets = Vec::new(alloc);
-    for node in 0..function.code.as_slice().len() {
-        let instruction = instruction_at(function, node);
-        let set = needed(
-            alloc,
-            words,
-            sets.as_slice(),
-            program,
-            function,
-            uses,
-            instruction,
-        )?;
-        sets.push(set)?;
+    let nodes = function.code.as_slice().len();
+    let mut sets = empty_sets(alloc, words, nodes)?;
+    for node in 0..nodes {
+        improve_later(alloc, words, &mut sets, program, function, uses, node)?;
+        improve(alloc, words, &mut sets, program, function, uses, node)?;
     }
     Ok(sets)
 }

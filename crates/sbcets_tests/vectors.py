@@ -27,10 +27,7 @@ sys.path.insert(0, os.path.join(TOP, "bench"))
 import row_images  # noqa: E402
 
 # folders of programs/ whose programs are cases too: all but those with structures as arguments and results
-FOLDERS = ["applications", "objects", "vulnerabilities", "wrong_accesses"]
-# programs that are not compiled yet: a scalar is read out of the contents of a result, or a structure is handed over in a
-# function with checks
-COVERED = {f"structures_by_value/{name}" for name in ("assembler", "line_editor", "read_behind_the_last", "values_of_a_dead_structure")}
+FOLDERS = ["applications", "objects", "structures_by_value", "vulnerabilities", "wrong_accesses"]
 TABLE = f"{HERE}/programs/expected.txt"
 COMMAND = "%call go hi.c --heap 1048576 --stack 65536 --calls 1048576 --blocks 4096"
 OPTIONS = ["-std=c99", "-O1", "-fwrapv", "-funsigned-char", "-fno-builtin", "-w", "-include", "stdio.h", "-include", "stdlib.h"]
@@ -46,8 +43,10 @@ WORKED = """address_wraps array_end array_initializers array_of_arrays before_th
 block_entered_again_is_clear block_object_dies break_leaves_blocks bytewise_copy casts_of_pointers dead_frame dead_frame_reused
 free_twice function_designators function_pointers global_pointers initializer_tags key_not_reused linked_list member_range misaligned_pointer
 nested_members past_the_end pointer_in_halves tag_stays_behind_integer union_tag calloc_overflows bad_call_type
-strings_are_objects unterminated_string structure_argument_judged structure_argument_of_dead_block
-structure_of_zeros_counts structure_value_accesses structures_by_value""".split()
+strings_are_objects unterminated_string array_of_a_result members_of_results structure_argument_judged
+structure_argument_of_dead_block structure_moves_at_an_odd_word structure_of_zeros_counts structure_parameter_is_a_copy
+structure_result_judged structure_result_missing structure_result_of_dead_object structure_value_accesses structure_values
+structures_by_value structures_chosen""".split()
 
 
 def bytes_of(file):
@@ -106,7 +105,7 @@ def cases_of_programs():
     """The cases of the table, and the lines that are to be printed; without those that are not compiled yet."""
     given, shown = [], []
     for name, line in table().items():
-        if os.path.dirname(name) not in FOLDERS and name not in COVERED:
+        if os.path.dirname(name) not in FOLDERS:
             continue
         source = f"{HERE}/programs/{name}.c"
         head = COMMAND + (f"\n%input {escaped(input_of(source))}" if input_of(source) else "")
